@@ -1,0 +1,13 @@
+pub mod Begins
+pub mod StoredRows
+pub mod Refusals
+pub mod Read
+pub mod Successors
+pub mod Walks
+pub mod Steps
+pub mod Related
+pub mod Rounds
+pub mod Rest
+pub mod Least
+pub mod EndlessPaths
+pub mod OneAnswer

@@ -1,0 +1,9 @@
+pub mod Values
+pub mod Limits
+pub mod Transitions
+pub mod Walks
+pub mod Until
+pub mod Endless
+pub mod Rows
+pub mod Refusals
+pub mod Answers

@@ -1,0 +1,37 @@
+-- Stored rows: how a row of verdicts, one value a state, stands in the verdict space.
+use Prim.Native.Nat.{ℕ, _*_}
+use mathlib.Core.List.{List, _++_}
+use mathlib.Core.Bool.{Bool, not, cond, _||_, _&&_}
+use lib.ListN.{length, drop}
+use lib.Dec.{eqb, ltb, leb}
+use Rattle.lists.specs.Entries.{at, anyBelow}
+use Rattle.kripke.specs.Values.{top}
+use Rattle.kripke.specs.Limits.{mostStates, mostNodes}
+
+-- how many bytes a row of S states takes
+unfoldable pub rowSize : ℕ → ℕ
+rowSize S = S
+
+-- where row k begins
+unfoldable pub rowBegin : ℕ → ℕ → ℕ
+rowBegin S k = k * rowSize S
+
+-- the bytes that stand for a row of values
+unfoldable pub storedRow : List ℕ → List ℕ
+storedRow row = row
+
+-- the value of a stored row at a state
+unfoldable pub valueAt : List ℕ → ℕ → ℕ
+valueAt stored s = at stored s
+
+-- not one value a state, or a value above 2
+unfoldable pub badRow : ℕ → List ℕ → Bool
+badRow S stored = not (eqb (length stored) (rowSize S)) || anyBelow (λ (i : ℕ). ltb top (at stored i)) (length stored)
+
+-- the bytes of the largest verdict space
+unfoldable pub mostVerdicts : ℕ
+mostVerdicts = rowBegin mostStates mostNodes
+
+-- a space afterwards: the row at its front where it has room for it, and otherwise as before
+unfoldable pub withRow : List ℕ → List ℕ → List ℕ
+withRow row space = cond (leb (length (storedRow row)) (length space)) (storedRow row ++ drop (length (storedRow row)) space) space

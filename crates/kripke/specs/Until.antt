@@ -1,0 +1,31 @@
+-- What a walk is worth for an until, and E and A: the greatest and the least of it over the walks from a state.
+use Prim.Native.Nat.{ℕ, min, max}
+use mathlib.Core.List.{List, map}
+use mathlib.Core.Bool.{Bool}
+use lib.ListN.{length, take}
+use Rattle.lists.specs.Entries.{at}
+use Rattle.lists.specs.Rows.{tab}
+use Rattle.lists.specs.Choosing.{best, lowest}
+use Rattle.kripke.specs.Values.{choose}
+use Rattle.kripke.specs.Transitions.{succs}
+use Rattle.kripke.specs.Walks.{walks}
+
+-- at place i: the smallest of the right value there and the left values at all earlier places
+unfoldable pub placeValue : List ℕ → List ℕ → List ℕ → ℕ → ℕ
+placeValue L R w i = lowest (at R (at w i)) (map (at L) (take i w))
+
+-- of a walk: the greatest of these over its places
+unfoldable pub untilValue : List ℕ → List ℕ → List ℕ → ℕ
+untilValue L R w = best max (tab (placeValue L R w) (length w))
+
+-- over the walks of n states from s: for E the greatest until-value, for A, "all", the least
+unfoldable pub until : Bool → List ℕ → List ℕ → List ℕ → ℕ → ℕ → ℕ
+until all es L R n s = best (choose all) (map (untilValue L R) (walks es n s))
+
+-- the greatest value of a row among the successors of s; for "all" the least
+unfoldable pub next : Bool → List ℕ → List ℕ → ℕ → ℕ
+next all es row s = best (choose all) (map (at row) (succs es s))
+
+-- right, or left and what comes next
+abbrev pub step : ℕ → ℕ → ℕ → ℕ
+step l r v = max r (min l v)

@@ -1,0 +1,108 @@
+// A row of verdicts as it is stored. Nothing else knows how.
+use crate::limits::MOST_STATES;
+ghost use mathlib.Core.Path.{_≡_};
+ghost use Prim.Native.Nat.{ℕ, _<_, _≤_};
+ghost use lib.ListN.{length};
+ghost use lib.Dec.{ltb};
+ghost use Rattle.lists.specs.Entries.{at, anyBelow};
+ghost use Rattle.lists.specs.Rows.{Filled};
+ghost use Rattle.kripke.specs.Values.{top};
+ghost use Rattle.kripke.specs.Rows.{rowSize, valueAt, badRow};
+ghost use Rattle.kripke.specs.Answers.{rowRead, RowStored};
+
+// A stored row, read: whether it is one of so many states, and its values, the rest 0.
+pub struct Row {
+    pub valid: bool,
+    pub values: [u8; MOST_STATES],
+}
+
+// How many bytes a row of so many states takes.
+pub fn row_size(states: usize) -> usize
+    ensures { λ r. ⌜ r ≡ rowSize states ⌝ }
+{
+    states
+}
+
+// Whether a value is above 2.
+fn some_high(stored: &[u8]) -> bool
+    ensures { λ r. ⌜ r ≡ anyBelow (λ (i : ℕ). ltb top (at (now (stored .entry)) i)) (length (now (stored .entry))) ⌝ }
+{
+    let n = stored.len();
+    let mut i: usize = 0;
+    while i < n {
+        if 2 < stored[i] {
+            return true;
+        }
+        i += 1;
+    }
+    false
+}
+
+// Whether what is lent is no row of so many states.
+fn bad_row(states: usize, stored: &[u8]) -> bool
+    ensures { λ r. ⌜ r ≡ badRow states (now (stored .entry)) ⌝ }
+{
+    if stored.len() != row_size(states) {
+        return true;
+    }
+    some_high(stored)
+}
+
+// The value at a state.
+fn value_at(stored: &[u8], s: usize) -> u8
+    requires { ⌜ s < length (now stored) ⌝ }
+    ensures { λ r. ⌜ r ≡ valueAt (now (stored .entry)) s ⌝ }
+{
+    stored[s]
+}
+
+// The values of a row, at the front of a space.
+fn unpack(states: usize, stored: &[u8], values: &mut [u8])
+    requires { ⌜ (states ≤ length (now values)) × (states ≤ length (now stored)) ⌝ }
+    ensures { λ _. ⌜ Filled (valueAt (now (stored .entry))) states (now (values .entry)) (now (values .exit)) ⌝ }
+{
+    let mut s: usize = 0;
+    while s < states {
+        values[s] = value_at(stored, s);
+        s += 1;
+    }
+}
+
+pub fn read_row(states: usize, stored: &[u8]) -> Row
+    ensures { λ r. ⌜ r ≡ rowRead states (now (stored .entry)) ⌝ }
+{
+    let mut values = [0u8; MOST_STATES];
+    if MOST_STATES < states {
+        return Row {
+            valid: false,
+            values,
+        };
+    }
+    if bad_row(states, stored) {
+        return Row {
+            valid: false,
+            values,
+        };
+    }
+    unpack(states, stored, &mut values);
+    Row {
+        valid: true,
+        values,
+    }
+}
+
+// Copies a finished row to the front of a space, or says that it has no room and leaves it.
+pub fn store_row(values: &[u8], space: &mut [u8]) -> bool
+    ensures { λ r. ⌜ RowStored (now (values .entry)) (now (space .entry)) (now (space .exit)) r ⌝ }
+{
+    let n = values.len();
+    if space.len() < n {
+        return false;
+    }
+    let mut i: usize = 0;
+    while i < n {
+        space[i] = values[i];
+        i += 1;
+    }
+    true
+}

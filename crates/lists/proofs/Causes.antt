@@ -1,0 +1,73 @@
+-- The number that a table of causes gives is the lowest that applies, and no other number is.
+use mathlib.Core.Path.{_≡_, refl, sym, ap, _∙_, subst}
+use Prim.Native.Nat.{ℕ, zero, suc, _≤_, _<_}
+use native.Mathlib.Omega.{arith}
+use native.Mathlib.Nat.{eq-zero-or-pos, le-antisymm}
+use mathlib.Core.List.{List, [], _∷_, _++_}
+use mathlib.Core.Bool.{Bool, true, false, cond, true≢false}
+use lib.Dec.{eqb}
+use borrow.Author.Tests.{ne-eqb}
+use mathlib.Core.Logic.{_⊎_, inl, inr, ⊎-elim}
+use Rattle.lists.specs.Causes.{Cause, cause, refusalOf, Applies, Rising, Given}
+
+-- a number that applies stands above what the rows rise from
+above : (m : ℕ) (cs : List Cause) → Rising m cs → (n : ℕ) → Applies cs n → m < n
+above m [] r n a = absurd a
+above m (c ∷ cs) r n a = ⊎-elim (λ (p : (c .number ≡ n) × (c .holds ≡ true)). omega (arith, p .0, r .0)) (λ q. omega (arith, above (c .number) cs (r .1) n q, r .0)) a
+
+-- the first cause that applies is the lowest
+pub given : (m : ℕ) (cs : List Cause) → Rising m cs → Given cs (refusalOf cs)
+unfolding refusalOf
+given m [] r = record { applies = λ h. h refl; lowest = λ n a. absurd a }
+given m (c ∷ cs) r = go (c .holds) refl (given (c .number) cs (r .1))
+  where
+    go : (b : Bool) → c .holds ≡ b → Given cs (refusalOf cs) → Given (c ∷ cs) (cond b (c .number) (refusalOf cs))
+    go true e g =
+        record {
+          applies = λ h. inl (refl, e);
+          lowest = λ n a. (omega (arith, r .0), ⊎-elim (λ (p : (c .number ≡ n) × (c .holds ≡ true)). omega (arith, p .0)) (λ q. omega (arith, above (c .number) cs (r .1) n q)) a);
+        }
+    go false e g =
+        record {
+          applies = λ h. inr (g .applies h);
+          lowest = λ n a. ⊎-elim (λ (p : (c .number ≡ n) × (c .holds ≡ true)). absurd (true≢false (sym (p .1) ∙ e))) (λ q. g .lowest n q) a;
+        }
+
+-- no two numbers are given for one table
+pub given-one : (cs : List Cause) (n n′ : ℕ) → Given cs n → Given cs n′ → n ≡ n′
+given-one cs n n′ g g′ = go (eq-zero-or-pos n) (eq-zero-or-pos n′)
+  where
+    go : (n ≡ 0) ⊎ (0 < n) → (n′ ≡ 0) ⊎ (0 < n′) → n ≡ n′
+    go (inl e) (inl e′) = e ∙ sym e′
+    go (inl e) (inr l′) = absurd (omega (arith, g .lowest n′ (g′ .applies (λ z. omega arith)) .0))
+    go (inr l) (inl e′) = absurd (omega (arith, g′ .lowest n (g .applies (λ z. omega arith)) .0))
+    go (inr l) (inr l′) = le-antisymm (g .lowest n′ (g′ .applies (λ z. omega arith)) .1) (g′ .lowest n (g .applies (λ z. omega arith)) .1)
+
+-- the table row by row: a cause that applies, and one that does not
+pub refused : (n : ℕ) (b : Bool) (cs : List Cause) → b ≡ true → refusalOf (cause n b ∷ cs) ≡ n
+unfolding refusalOf
+refused n b cs e = ap (λ (x : Bool). cond x n (refusalOf cs)) e
+
+pub skipped : (n : ℕ) (b : Bool) (cs : List Cause) → b ≡ false → refusalOf (cause n b ∷ cs) ≡ refusalOf cs
+unfolding refusalOf
+skipped n b cs e = ap (λ (x : Bool). cond x n (refusalOf cs)) e
+
+pub none-refused : refusalOf [] ≡ 0
+unfolding refusalOf
+none-refused = refl
+
+-- where nothing is refused, no cause applies
+pub passed : (n : ℕ) (b : Bool) (cs : List Cause) → refusalOf (cause (suc n) b ∷ cs) ≡ 0 → (b ≡ false) × (refusalOf cs ≡ 0)
+unfolding refusalOf
+passed n true cs e = absurd (omega arith)
+passed n false cs e = (refl, e)
+
+-- a table in two parts: the first part's number, or the second's where the first gives none
+pub refusal-append : (m : ℕ) (cs ds : List Cause) → Rising m cs → refusalOf (cs ++ ds) ≡ cond (eqb (refusalOf cs) 0) (refusalOf ds) (refusalOf cs)
+unfolding refusalOf
+refusal-append m [] ds r = refl
+refusal-append m (c ∷ cs) ds r = go (c .holds) (refusal-append (c .number) cs ds (r .1))
+  where
+    go : (b : Bool) → refusalOf (cs ++ ds) ≡ cond (eqb (refusalOf cs) 0) (refusalOf ds) (refusalOf cs) → cond b (c .number) (refusalOf (cs ++ ds)) ≡ cond (eqb (cond b (c .number) (refusalOf cs)) 0) (refusalOf ds) (cond b (c .number) (refusalOf cs))
+    go true later = rw (ne-eqb (c .number) 0 (λ e. omega (arith, r .0)))
+    go false later = later

@@ -1,0 +1,4 @@
+pub mod Entries
+pub mod Rows
+pub mod Choosing
+pub mod Causes
