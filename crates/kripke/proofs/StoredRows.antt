@@ -1,18 +1,21 @@
 -- Stored rows: what `read_row` answers for what is no row and for what is one.
 use mathlib.Core.Path.{_≡_, sym, ap, _∙_}
-use Prim.Native.Nat.{ℕ, _-_, _≤_}
+use Prim.Native.Nat.{ℕ, _-_, _≤_, _<_}
 use mathlib.Core.List.{List, _++_}
 use mathlib.Core.Bool.{Bool, true, false, cond, not, _&&_}
 use native.Mathlib.Omega.{arith}
-use lib.ListN.{length, replicate}
-use lib.Dec.{leb}
-use borrow.Author.Tests.{le-leb, eqb-true, not-false}
+use lib.ListN.{length, replicate, length-replicate}
+use lib.Dec.{eqb, ltb, leb}
+use borrow.Author.Tests.{le-leb, ltb-false, leb-true, eqb-true, not-true, not-false}
 use Rattle.kripke.specs.Answers.{rowRead}
 use Rattle.kripke.specs.Limits.{mostStates}
-use Rattle.kripke.specs.Rows.{badRow, rowSize, valueAt}
+use Rattle.kripke.specs.Rows.{badRow, rowSize, rowValues, valueAt}
+use Rattle.kripke.specs.Values.{top}
+use Rattle.lists.specs.Entries.{anyBelow, at}
 use Rattle.lists.specs.Rows.{Filled, tab}
-use Rattle.lists.proofs.Rows.{drop-replicate}
-use Rattle.lists.proofs.Tests.{and-both, or-neither}
+use Rattle.lists.proofs.Rows.{drop-replicate, filled-at, filled-length}
+use Rattle.lists.proofs.Search.{any-none}
+use Rattle.lists.proofs.Tests.{and-both, and-holds, and-parts, or-neither}
 use Rattle.kripke.specs.declared.rows.Row.{Row}
 
 -- as many bytes as states at the least
@@ -22,14 +25,47 @@ row-bytes S stored e = omega (arith, eqb-true (length stored) S (not-false _ (or
 
 -- what is answered goes by the test alone
 answer : ℕ → List ℕ → Bool → Row
-answer S stored b = record { valid = b; values = cond b (tab (valueAt stored) S ++ replicate (mostStates - S) 0) (replicate mostStates 0) }
+answer S stored b = record { valid = b; values = cond b (rowValues S stored ++ replicate (mostStates - S) 0) (replicate mostStates 0) }
 
 pub row-refused : (S : ℕ) (stored : List ℕ) (r : Row) → r .valid ≡ false → r .values ≡ replicate mostStates 0 → (leb S mostStates && not (badRow S stored)) ≡ false → r ≡ rowRead S stored
 unfolding rowRead answer
 row-refused S stored r v w e = (λ i. record { valid = v i; values = w i }) ∙ ap (answer S stored) (sym e)
 
 pub row-taken : (S : ℕ) (stored : List ℕ) (r : Row) → r .valid ≡ true → Filled (valueAt stored) S (replicate mostStates 0) (r .values) → S ≤ mostStates → badRow S stored ≡ false → r ≡ rowRead S stored
-unfolding rowRead answer
+unfolding rowRead answer rowValues
 row-taken S stored r v w few fine =
-    let filled : r .values ≡ tab (valueAt stored) S ++ replicate (mostStates - S) 0 = w ∙ ap (λ (rest : List ℕ). tab (valueAt stored) S ++ rest) (drop-replicate S mostStates 0) in
+    let filled : r .values ≡ rowValues S stored ++ replicate (mostStates - S) 0 = w ∙ ap (λ (rest : List ℕ). tab (valueAt stored) S ++ rest) (drop-replicate S mostStates 0) in
     (λ i. record { valid = v i; values = filled i }) ∙ ap (answer S stored) (sym (and-both (leb S mostStates) (not (badRow S stored)) (le-leb S mostStates few) (ap not fine)))
+
+-- what a caller has of a row that is one: its values at the front, each at most 2, and the space's length
+pub record RowTaken (S : ℕ) (stored values : List ℕ) : Type 0 where
+  pub few : S ≤ mostStates
+  pub fine : badRow S stored ≡ false
+  pub long : length values ≡ mostStates
+  pub here : (s : ℕ) → s < S → at values s ≡ valueAt stored s
+
+pub row-read : (S : ℕ) (stored : List ℕ) (r : Row) → r ≡ rowRead S stored → r .valid ≡ true → RowTaken S stored (r .values)
+unfolding rowRead rowValues
+row-read S stored r e v =
+    let test : (leb S mostStates && not (badRow S stored)) ≡ true = ap (λ (x : Row). x .valid) (sym e) ∙ v in
+    let p = and-parts (leb S mostStates) (not (badRow S stored)) test in
+    let few : S ≤ mostStates = leb-true S mostStates (p .0) in
+    let filled : Filled (valueAt stored) S (replicate mostStates 0) (r .values) = ap (λ (x : Row). x .values) e ∙ ap (λ (b : Bool). cond b (rowValues S stored ++ replicate (mostStates - S) 0) (replicate mostStates 0)) test ∙ ap (λ (rest : List ℕ). tab (valueAt stored) S ++ rest) (sym (drop-replicate S mostStates 0)) in
+    record {
+      few = few;
+      fine = not-true (badRow S stored) (p .1);
+      long = filled-length (valueAt stored) S (replicate mostStates 0) (r .values) filled (rw length-replicate few) ∙ length-replicate {A = ℕ} mostStates 0;
+      here = filled-at (valueAt stored) S (replicate mostStates 0) (r .values) filled;
+    }
+
+pub row-not-read : (S : ℕ) (stored : List ℕ) (r : Row) → r ≡ rowRead S stored → r .valid ≡ false → S ≤ mostStates → badRow S stored ≡ true
+unfolding rowRead
+row-not-read S stored r e v few = not-false (badRow S stored) (sym (and-holds (leb S mostStates) (not (badRow S stored)) (le-leb S mostStates few)) ∙ ap (λ (x : Row). x .valid) (sym e) ∙ v)
+
+-- the values of a row that is one are at most 2
+pub row-values-small : (S : ℕ) (stored : List ℕ) → badRow S stored ≡ false → (s : ℕ) → s < S → valueAt stored s ≤ top
+unfolding badRow rowSize valueAt
+row-values-small S stored e s h =
+    let p : (not (eqb (length stored) S) ≡ false) × (anyBelow (λ (i : ℕ). ltb top (at stored i)) (length stored) ≡ false) = or-neither _ _ e in
+    let size : length stored ≡ S = eqb-true (length stored) S (not-false _ (p .0)) in
+    ltb-false top (at stored s) (any-none (λ (i : ℕ). ltb top (at stored i)) (length stored) (p .1) s (omega arith))

@@ -15,7 +15,7 @@ use Rattle.kripke.specs.declared.graph.Transitions.{Transitions}
 use Rattle.kripke.specs.Values.{top}
 use Rattle.kripke.specs.Limits.{mostStates, mostAtoms, mostTransitions, mostNodes, mostText, greatestKind, mostLabels, mostTransitionNumbers, mostNodeNumbers}
 use Rattle.kripke.specs.Transitions.{firstOut}
-use Rattle.kripke.specs.Rows.{storedRow, valueAt, badRow, withRow, mostVerdicts}
+use Rattle.kripke.specs.Rows.{storedRow, rowValues, badRow, withRow, mostVerdicts}
 use Rattle.kripke.specs.Refusals.{tableRefusal}
 
 -- `in_force`: the limits and the sizes that follow
@@ -46,7 +46,7 @@ verdictOf n = cond (leb n top) (One (verdict n)) None
 unfoldable pub rowRead : ℕ → List ℕ → Row
 rowRead S stored =
     let valid : Bool = leb S mostStates && not (badRow S stored) in
-    record { valid = valid; values = cond valid (tab (valueAt stored) S ++ replicate (mostStates - S) 0) (replicate mostStates 0) }
+    record { valid = valid; values = cond valid (rowValues S stored ++ replicate (mostStates - S) 0) (replicate mostStates 0) }
 
 -- `store_row`: whether the space has room for the row, and the space afterwards
 pub record RowStored (row before after : List ℕ) (stored : Bool) : Type 0 where

@@ -5,6 +5,7 @@ use mathlib.Core.Bool.{Bool, not, cond, _||_, _&&_}
 use lib.ListN.{length, drop}
 use lib.Dec.{eqb, ltb, leb}
 use Rattle.lists.specs.Entries.{at, anyBelow}
+use Rattle.lists.specs.Rows.{tab}
 use Rattle.kripke.specs.Values.{top}
 use Rattle.kripke.specs.Limits.{mostStates, mostNodes}
 
@@ -23,6 +24,10 @@ storedRow row = row
 -- the value of a stored row at a state
 unfoldable pub valueAt : List ℕ → ℕ → ℕ
 valueAt stored s = at stored s
+
+-- the values of a stored row of S states
+unfoldable pub rowValues : ℕ → List ℕ → List ℕ
+rowValues S stored = tab (valueAt stored) S
 
 -- not one value a state, or a value above 2
 unfoldable pub badRow : ℕ → List ℕ → Bool
