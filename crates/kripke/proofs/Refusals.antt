@@ -2,7 +2,7 @@
 use mathlib.Core.Path.{_≡_, refl, sym, ap, _∙_, subst}
 use Prim.Native.Nat.{ℕ, suc, _-_, _%_, _≤_, _<_}
 use mathlib.Core.List.{List, [], _∷_}
-use mathlib.Core.Bool.{true, false, cond, not, _&&_, _||_}
+use mathlib.Core.Bool.{Bool, true, false, cond, not, _&&_, _||_}
 use mathlib.Core.Logic.{_⊎_, inl, inr}
 use native.Mathlib.Omega.{arith}
 use native.Mathlib.Nat.{eq-zero-or-pos}
@@ -10,12 +10,12 @@ use lib.ListN.{length}
 use lib.Dec.{eqb, ltb}
 use borrow.Author.Tests.{lt-ltb, le-ltb, eq-eqb, ne-eqb, ltb-false, leb-false, eqb-false, not-false}
 use Rattle.kripke.specs.Limits.{mostStates, mostTransitionNumbers, mostTransitions}
-use Rattle.kripke.specs.Refusals.{badCount, badList, earlyCauses, falls, leaves, stuckCause, tableCauses, tableRefusal}
+use Rattle.kripke.specs.Refusals.{badCount, badList, earlyCauses, falls, leaves, stuckCause, tableCauses, tableRefusal, transitionCauses}
 use Rattle.kripke.specs.Transitions.{Ascending, Graph, comesBefore, count, succs}
 use Rattle.lists.specs.Causes.{Given, Rising, refusalOf}
 use Rattle.lists.specs.Entries.{All, anyBelow, at, isNil}
 use Rattle.kripke.proofs.Begins.{from-tail, to-tail}
-use Rattle.lists.proofs.Causes.{given, given-one, passed, refusal-append}
+use Rattle.lists.proofs.Causes.{given, given-one, passed, refusal-append, refused, skipped}
 use Rattle.lists.proofs.Entries.{some-of}
 use Rattle.lists.proofs.Search.{any-none}
 use Rattle.lists.proofs.Tests.{and-holds, or-left, or-neither, or-none, or-right}
@@ -133,3 +133,19 @@ accepted S es e = go (refusalOf (earlyCauses S es)) refl (eq-zero-or-pos (refusa
     go n q (inr p) =
         let given : tableRefusal S es ≡ n = table-parts S es n q ∙ rw (ne-eqb n 0 (λ z. omega arith)) in
         absurd (omega arith)
+
+-- the tables' number is 1 exactly if the state count is out of range
+pub table-one : (S : ℕ) (es : List ℕ) → badCount S ≡ true → tableRefusal S es ≡ 1
+unfolding tableRefusal
+table-one S es e = refused 1 (badCount S) (transitionCauses S es) e
+
+pub table-rest : (S : ℕ) (es : List ℕ) → badCount S ≡ false → tableRefusal S es ≡ refusalOf (transitionCauses S es)
+unfolding tableRefusal
+table-rest S es e = skipped 1 (badCount S) (transitionCauses S es) e
+
+pub table-few : (S : ℕ) (es : List ℕ) → (tableRefusal S es ≡ 1 → ⊥) → S ≤ mostStates
+table-few S es h = go (badCount S) refl
+  where
+    go : (b : Bool) → badCount S ≡ b → S ≤ mostStates
+    go true e = absurd (h (table-one S es e))
+    go false e = count-range S e .1

@@ -1,21 +1,23 @@
 -- Stored rows: what `read_row` answers for what is no row and for what is one.
-use mathlib.Core.Path.{_≡_, sym, ap, _∙_}
+use mathlib.Core.Path.{_≡_, refl, sym, ap, _∙_}
 use Prim.Native.Nat.{ℕ, _-_, _≤_, _<_}
 use mathlib.Core.List.{List, _++_}
 use mathlib.Core.Bool.{Bool, true, false, cond, not, _&&_}
+use mathlib.Core.Logic.{⊎-elim}
 use native.Mathlib.Omega.{arith}
-use lib.ListN.{length, replicate, length-replicate}
+use lib.ListN.{length, replicate, length-replicate, List·getD-eq-default}
 use lib.Dec.{eqb, ltb, leb}
-use borrow.Author.Tests.{le-leb, ltb-false, leb-true, eqb-true, not-true, not-false}
+use borrow.Author.Tests.{le-ltb, le-leb, eq-eqb, ltb-false, leb-true, eqb-true, not-true, not-false}
 use Rattle.kripke.specs.Answers.{rowRead}
 use Rattle.kripke.specs.Limits.{mostStates}
-use Rattle.kripke.specs.Rows.{badRow, rowSize, rowValues, valueAt}
+use Rattle.kripke.specs.Rows.{badRow, rowSize, rowValues, someAbove, storedRow, valueAt}
 use Rattle.kripke.specs.Values.{top}
-use Rattle.lists.specs.Entries.{anyBelow, at}
+use Rattle.lists.specs.Entries.{at}
 use Rattle.lists.specs.Rows.{Filled, tab}
-use Rattle.lists.proofs.Rows.{drop-replicate, filled-at, filled-length}
-use Rattle.lists.proofs.Search.{any-none}
-use Rattle.lists.proofs.Tests.{and-both, and-holds, and-parts, or-neither}
+use Rattle.lists.proofs.Numbers.{lt-or-le}
+use Rattle.lists.proofs.Rows.{drop-replicate, filled-at, filled-length, tab-own}
+use Rattle.lists.proofs.Search.{any-never, any-none, any-same}
+use Rattle.lists.proofs.Tests.{and-both, and-holds, and-parts, or-neither, or-none}
 use Rattle.kripke.specs.declared.rows.Row.{Row}
 
 -- as many bytes as states at the least
@@ -62,10 +64,38 @@ pub row-not-read : (S : ℕ) (stored : List ℕ) (r : Row) → r ≡ rowRead S s
 unfolding rowRead
 row-not-read S stored r e v few = not-false (badRow S stored) (sym (and-holds (leb S mostStates) (not (badRow S stored)) (le-leb S mostStates few)) ∙ ap (λ (x : Row). x .valid) (sym e) ∙ v)
 
+-- no entry above v: each is at most v, and past the end it is 0
+pub none-above : (xs : List ℕ) (v : ℕ) → someAbove xs v ≡ false → (i : ℕ) → at xs i ≤ v
+unfolding someAbove
+none-above xs v e i =
+    ⊎-elim
+    (λ (h : i < length xs). ltb-false v (at xs i) (any-none (λ (j : ℕ). ltb v (at xs j)) (length xs) e i h))
+    (λ (h : length xs ≤ i). rw (List·getD-eq-default xs 0 h) (omega arith))
+    (lt-or-le i (length xs))
+
+pub above-none : (xs : List ℕ) (v : ℕ) → ((i : ℕ) → at xs i ≤ v) → someAbove xs v ≡ false
+unfolding someAbove
+above-none xs v h = any-same (λ (i : ℕ). ltb v (at xs i)) (λ (i : ℕ). false) (length xs) (λ i l. le-ltb v (at xs i) (h i)) ∙ any-never (length xs)
+
 -- the values of a row that is one are at most 2
-pub row-values-small : (S : ℕ) (stored : List ℕ) → badRow S stored ≡ false → (s : ℕ) → s < S → valueAt stored s ≤ top
-unfolding badRow rowSize valueAt
-row-values-small S stored e s h =
-    let p : (not (eqb (length stored) S) ≡ false) × (anyBelow (λ (i : ℕ). ltb top (at stored i)) (length stored) ≡ false) = or-neither _ _ e in
-    let size : length stored ≡ S = eqb-true (length stored) S (not-false _ (p .0)) in
-    ltb-false top (at stored s) (any-none (λ (i : ℕ). ltb top (at stored i)) (length stored) (p .1) s (omega arith))
+pub row-values-small : (S : ℕ) (stored : List ℕ) → badRow S stored ≡ false → (s : ℕ) → valueAt stored s ≤ top
+unfolding badRow valueAt
+row-values-small S stored e s = none-above stored top (or-neither (not (eqb (length stored) (rowSize S))) (someAbove stored top) e .1) s
+
+-- a row takes no more bytes than it has states
+pub row-size-within : (S : ℕ) → rowSize S ≤ S
+unfolding rowSize
+row-size-within S = omega arith
+
+-- what is stored of a row of values up to 2 is a row, takes its size, and gives the values back
+pub stored-size : (row : List ℕ) → length (storedRow row) ≡ rowSize (length row)
+unfolding storedRow rowSize
+stored-size row = refl
+
+pub stored-valid : (row : List ℕ) → ((s : ℕ) → at row s ≤ top) → badRow (length row) (storedRow row) ≡ false
+unfolding badRow storedRow rowSize
+stored-valid row h = or-none (not (eqb (length row) (length row))) (someAbove row top) (ap not (eq-eqb (length row) (length row) refl)) (above-none row top h)
+
+pub stored-values : (row : List ℕ) → rowValues (length row) (storedRow row) ≡ row
+unfolding rowValues storedRow valueAt
+stored-values row = tab-own row

@@ -9,6 +9,10 @@ use Rattle.lists.specs.Rows.{tab}
 use Rattle.kripke.specs.Values.{top}
 use Rattle.kripke.specs.Limits.{mostStates, mostNodes}
 
+-- whether an entry is above a value
+unfoldable pub someAbove : List ℕ → ℕ → Bool
+someAbove xs v = anyBelow (λ (i : ℕ). ltb v (at xs i)) (length xs)
+
 -- how many bytes a row of S states takes
 unfoldable pub rowSize : ℕ → ℕ
 rowSize S = S
@@ -31,7 +35,7 @@ rowValues S stored = tab (valueAt stored) S
 
 -- not one value a state, or a value above 2
 unfoldable pub badRow : ℕ → List ℕ → Bool
-badRow S stored = not (eqb (length stored) (rowSize S)) || anyBelow (λ (i : ℕ). ltb top (at stored i)) (length stored)
+badRow S stored = not (eqb (length stored) (rowSize S)) || someAbove stored top
 
 -- the bytes of the largest verdict space
 unfoldable pub mostVerdicts : ℕ

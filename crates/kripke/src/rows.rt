@@ -1,13 +1,11 @@
 // A row of verdicts as it is stored. Nothing else knows how.
 use crate::limits::MOST_STATES;
+use crate::values::Verdict;
 ghost use mathlib.Core.Path.{_≡_};
-ghost use Prim.Native.Nat.{ℕ, _<_, _≤_};
+ghost use Prim.Native.Nat.{_<_, _≤_};
 ghost use lib.ListN.{length};
-ghost use lib.Dec.{ltb};
-ghost use Rattle.lists.specs.Entries.{at, anyBelow};
 ghost use Rattle.lists.specs.Rows.{Filled};
-ghost use Rattle.kripke.specs.Values.{top};
-ghost use Rattle.kripke.specs.Rows.{rowSize, valueAt, badRow};
+ghost use Rattle.kripke.specs.Rows.{someAbove, rowSize, valueAt, badRow};
 ghost use Rattle.kripke.specs.Answers.{rowRead, RowStored};
 
 // A stored row, read: whether it is one of so many states, and its values, the rest 0.
@@ -23,14 +21,14 @@ pub fn row_size(states: usize) -> usize
     states
 }
 
-// Whether a value is above 2.
-fn some_high(stored: &[u8]) -> bool
-    ensures { λ r. ⌜ r ≡ anyBelow (λ (i : ℕ). ltb top (at (now (stored .entry)) i)) (length (now (stored .entry))) ⌝ }
+// Whether an entry is above a value.
+pub fn some_above(list: &[u8], value: u8) -> bool
+    ensures { λ r. ⌜ r ≡ someAbove (now (list .entry)) value ⌝ }
 {
-    let n = stored.len();
+    let n = list.len();
     let mut i: usize = 0;
     while i < n {
-        if 2 < stored[i] {
+        if value < list[i] {
             return true;
         }
         i += 1;
@@ -45,7 +43,7 @@ fn bad_row(states: usize, stored: &[u8]) -> bool
     if stored.len() != row_size(states) {
         return true;
     }
-    some_high(stored)
+    some_above(stored, Verdict::TRUE.0)
 }
 
 // The value at a state.

@@ -1,14 +1,15 @@
 -- The number that a table of causes gives is the lowest that applies, and no other number is.
-use mathlib.Core.Path.{_≡_, refl, sym, ap, _∙_, subst}
-use Prim.Native.Nat.{ℕ, zero, suc, _≤_, _<_}
-use native.Mathlib.Omega.{arith}
-use native.Mathlib.Nat.{eq-zero-or-pos, le-antisymm}
+use mathlib.Core.Path.{_≡_, refl, sym, ap, _∙_}
+use Prim.Native.Nat.{ℕ, suc, _<_}
 use mathlib.Core.List.{List, [], _∷_, _++_}
 use mathlib.Core.Bool.{Bool, true, false, cond, true≢false}
+use mathlib.Core.Logic.{_⊎_, inl, inr, ⊎-elim}
+use native.Mathlib.Omega.{arith}
+use native.Mathlib.Nat.{eq-zero-or-pos, le-antisymm}
 use lib.Dec.{eqb}
 use borrow.Author.Tests.{ne-eqb}
-use mathlib.Core.Logic.{_⊎_, inl, inr, ⊎-elim}
-use Rattle.lists.specs.Causes.{Cause, cause, refusalOf, Applies, Rising, Given}
+use Rattle.lists.specs.Causes.{Applies, Cause, Given, Rising, cause, refusalOf}
+use Rattle.lists.specs.Choosing.{lowest}
 
 -- a number that applies stands above what the rows rise from
 above : (m : ℕ) (cs : List Cause) → Rising m cs → (n : ℕ) → Applies cs n → m < n
@@ -55,6 +56,10 @@ skipped n b cs e = ap (λ (x : Bool). cond x n (refusalOf cs)) e
 pub none-refused : refusalOf [] ≡ 0
 unfolding refusalOf
 none-refused = refl
+
+-- what a table gives stands above what its numbers rise from
+pub refusal-above : (m : ℕ) (cs : List Cause) → Rising m cs → (refusalOf cs ≡ 0) ⊎ (m < refusalOf cs)
+refusal-above m cs r = ⊎-elim inl (λ (p : 0 < refusalOf cs). inr (above m cs r (refusalOf cs) (given m cs r .applies (λ z. omega arith)))) (eq-zero-or-pos (refusalOf cs))
 
 -- where nothing is refused, no cause applies
 pub passed : (n : ℕ) (b : Bool) (cs : List Cause) → refusalOf (cause (suc n) b ∷ cs) ≡ 0 → (b ≡ false) × (refusalOf cs ≡ 0)

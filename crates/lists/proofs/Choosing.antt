@@ -54,7 +54,7 @@ module _ (op : ℕ → ℕ → ℕ) (assoc : (a b c : ℕ) → op (op a b) c ≡
       )
 
   -- a loop that keeps the best so far, begun with a value that changes nothing
-  run-best : (x : ℕ) (xs : List ℕ) → run op x xs ≡ best op (x ∷ xs)
+  pub run-best : (x : ℕ) (xs : List ℕ) → run op x xs ≡ best op (x ∷ xs)
   unfolding run best
   run-best x [] = refl
   run-best x (y ∷ []) = refl

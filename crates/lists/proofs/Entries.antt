@@ -1,12 +1,12 @@
 -- Laws of `at`, `Some` and `All`: lists read entry by entry.
 use mathlib.Core.Path.{_≡_, refl, sym, subst}
-use Prim.Native.Nat.{ℕ, zero, suc, _≤_, _<_}
-use native.Mathlib.Omega.{arith}
-use mathlib.Core.Bool.{Bool, false}
+use Prim.Native.Nat.{ℕ, zero, suc, _<_}
 use mathlib.Core.List.{List, [], _∷_, _++_, map, List·Memᴰ, List·Memᴰ·head, List·Memᴰ·tail}
-use lib.ListN.{length}
+use mathlib.Core.Bool.{false}
+use native.Mathlib.Omega.{arith}
+use lib.ListN.{length, getD}
 use lib.Dec.{T}
-use Rattle.lists.specs.Entries.{at, Some, All, isNil}
+use Rattle.lists.specs.Entries.{All, Some, at, isNil}
 
 pub some-map {ℓ κ} : {A : Type ℓ} {B : Type κ} (f : A → B) (xs : List A) → Some xs → Some (map f xs)
 some-map f [] h = h
@@ -29,14 +29,21 @@ pub some-first : {A : Type 0} (xs : List A) → Some xs → (x : A) × List·Mem
 some-first [] h = absurd h
 some-first (x ∷ xs) h = (x, List·Memᴰ·head refl)
 
+-- what holds of each entry holds at each place, and back; past the end stands d
+pub all-get : {A : Type 0} (P : A → Type 0) (d : A) (xs : List A) → All P xs → (k : ℕ) → k < length xs → P (getD xs k d)
+all-get P d [] a k h = absurd (omega arith)
+all-get P d (x ∷ xs) a zero h = a .0
+all-get P d (x ∷ xs) a (suc k) h = all-get P d xs (a .1) k (omega arith)
+
+pub all-from : {A : Type 0} (P : A → Type 0) (d : A) (xs : List A) → ((k : ℕ) → k < length xs → P (getD xs k d)) → All P xs
+all-from P d [] h = tt
+all-from P d (x ∷ xs) h = (h 0 (omega arith), all-from P d xs (λ k l. h (suc k) (omega arith)))
+
 pub all-at : (P : ℕ → Type 0) (xs : List ℕ) → All P xs → (i : ℕ) → i < length xs → P (at xs i)
-all-at P [] a i h = absurd (omega arith)
-all-at P (x ∷ xs) a zero h = a .0
-all-at P (x ∷ xs) a (suc i) h = all-at P xs (a .1) i (omega arith)
+all-at P xs = all-get P 0 xs
 
 pub all-of : (P : ℕ → Type 0) (xs : List ℕ) → ((i : ℕ) → i < length xs → P (at xs i)) → All P xs
-all-of P [] h = tt
-all-of P (x ∷ xs) h = (h 0 (omega arith), all-of P xs (λ i l. h (suc i) (omega arith)))
+all-of P xs = all-from P 0 xs
 
 pub all-member : {A : Type 0} (P : A → Type 0) (xs : List A) → All P xs → (x : A) → List·Memᴰ x xs → P x
 all-member P (y ∷ ys) a x (List·Memᴰ·head e) = subst P (sym e) (a .0)

@@ -83,8 +83,15 @@ filled-behind f n d out e = ap (drop n) e ∙ drop-at (tab f n) (drop n d) n (le
 pub filled-again : (f g : ℕ → ℕ) (n : ℕ) (d out out′ : List ℕ) → Filled g n d out → Filled f n out out′ → Filled f n d out′
 filled-again f g n d out out′ e e′ = e′ ∙ ap (λ (r : List ℕ). tab f n ++ r) (filled-behind g n d out e)
 
+pub filled-self : (f : ℕ → ℕ) (n : ℕ) (d out : List ℕ) → Filled f n d out → Filled f n out out
+filled-self f n d out e = e ∙ ap (λ (r : List ℕ). tab f n ++ r) (sym (filled-behind f n d out e))
+
 pub filled-same : (f g : ℕ → ℕ) (n : ℕ) (d out : List ℕ) → ((s : ℕ) → s < n → f s ≡ g s) → Filled f n d out → Filled g n d out
 filled-same f g n d out h e = e ∙ ap (λ (r : List ℕ). r ++ drop n d) (tab-same f g n h)
+
+-- filled with the front of a list that was filled by a rule
+pub filled-via : (f : ℕ → ℕ) (n : ℕ) (d source before after : List ℕ) → Filled f n d source → Filled (at source) n before after → Filled f n before after
+filled-via f n d source before after e = filled-same (at source) f n before after (filled-at f n d source e)
 
 -- a list of one value, from a place on
 pub drop-replicate : (n m a : ℕ) → drop n (replicate m a) ≡ replicate (m - n) a

@@ -45,3 +45,8 @@ pub any-same : (p q : ℕ → Bool) (n : ℕ) → ((i : ℕ) → i < n → p i �
 unfolding anyBelow
 any-same p q zero h = refl
 any-same p q (suc n) h = cc (h n (omega arith), any-same p q n (λ i l. h i (omega arith)))
+
+pub any-never : (n : ℕ) → anyBelow (λ (i : ℕ). false) n ≡ false
+unfolding anyBelow
+any-never zero = refl
+any-never (suc n) = rw (any-never n)

@@ -1,7 +1,11 @@
 -- Tests joined by or and by and, from their parts and back.
 use mathlib.Core.Path.{_≡_, refl, sym, ap, _∙_}
-use mathlib.Core.Bool.{Bool, true, false, _&&_, _||_, or-true, or-false, true≢false}
-use mathlib.Core.Logic.{_⊎_, inl, inr}
+use Prim.Native.Nat.{ℕ, _≤_, _<_}
+use mathlib.Core.Bool.{Bool, true, false, not, _&&_, _||_, or-true, or-false, true≢false}
+use mathlib.Core.Logic.{_⊎_, inl, inr, ⊎-elim}
+use lib.Dec.{ltb, leb}
+use borrow.Author.Tests.{lt-ltb, le-ltb, le-leb, lt-leb}
+use Rattle.lists.proofs.Numbers.{lt-or-le}
 
 pub or-left : (a b : Bool) → a ≡ true → (a || b) ≡ true
 or-left a b e = ap (λ (x : Bool). x || b) e
@@ -36,3 +40,7 @@ or-fails a b e = ap (λ (x : Bool). x || b) e
 pub remembered : (was test now : Bool) → ((test ≡ true) × (now ≡ true)) ⊎ ((test ≡ false) × (now ≡ was)) → (was || test) ≡ now
 remembered was test now (inl p) = or-right was test (p .0) ∙ sym (p .1)
 remembered was test now (inr p) = ap (λ (x : Bool). was || x) (p .0) ∙ or-false was ∙ sym (p .1)
+
+-- not below is at least
+pub not-ltb : (a b : ℕ) → not (ltb a b) ≡ leb b a
+not-ltb a b = ⊎-elim (λ (h : a < b). ap not (lt-ltb a b h) ∙ sym (lt-leb b a h)) (λ (h : b ≤ a). ap not (le-ltb a b h) ∙ sym (le-leb b a h)) (lt-or-le a b)

@@ -15,12 +15,12 @@ returns : tie.Need-returns
 unfolding badRow
 returns c = sym (or-left _ _ (ap not (ne-eqb _ _ (λ e. c .if1 .taken (e ∙ sym (c .before .row-size .ensures))))))
 
-some-high-requires : tie.Need-some-high-requires
-some-high-requires c κs = search needs
+some-above-requires : tie.Need-some-above-requires
+some-above-requires c κs = search needs
 
 returns-2 : tie.Need-returns-2
 unfolding badRow
-returns-2 c = c .some-high .ensures ∙ sym (or-fails _ _ (ap not (eq-eqb _ _ (c .before .if1 .left ∙ c .before .before .row-size .ensures))))
+returns-2 c = c .some-above .ensures ∙ sym (or-fails _ _ (ap not (eq-eqb _ _ (c .before .if1 .left ∙ c .before .before .row-size .ensures))))
 
 pub bad-row-spec : {M : Type 1} → statement M
-bad-row-spec = tie.close (tie.spec row-size-requires returns some-high-requires returns-2)
+bad-row-spec = tie.close (tie.spec row-size-requires returns some-above-requires returns-2)

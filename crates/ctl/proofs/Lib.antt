@@ -1,0 +1,13 @@
+pub mod KindLaws
+pub mod Copies
+pub mod Scan
+pub mod Lowest
+pub mod Operands
+pub mod Spaces
+pub mod NodeLists
+pub mod Related
+pub mod PutRow
+pub mod OverInitial
+pub mod UntilRows
+pub mod FineRows
+pub mod JudgeLaws

@@ -1,0 +1,69 @@
+-- The rows of a node list, one node after the other.
+use mathlib.Core.Path.{_≡_, refl, ap, _∙_}
+use Prim.Native.Nat.{ℕ, zero, suc, _+_, _*_, _%_, _≤_, _<_}
+use mathlib.Core.List.{List, [], _∷_, _++_}
+use native.Mathlib.Omega.{arith}
+use lib.ListN.{length, getD, take, drop, length-append}
+use lib.Seq.{drop-cons, length-take-le, take-length, take-add}
+use Rattle.ctl.specs.Nodes.{Model, kindOf, nodeRow}
+use Rattle.ctl.specs.Refusals.{kindAt, leftAt, rightAt}
+use Rattle.ctl.specs.Rows.{nodeCount, rowsFrom, rowsOf}
+
+-- three numbers from a place on
+take-three : (ns : List ℕ) (i : ℕ) → i < nodeCount ns → take (3 * (i + 1)) ns ≡ take (3 * i) ns ++ (kindAt ns i ∷ leftAt ns i ∷ rightAt ns i ∷ [])
+take-three ns i h =
+    let three : 3 * (i + 1) ≡ 3 * i + 3 = omega arith in
+    let one : suc (3 * i) ≡ 3 * i + 1 = omega arith in
+    let two : suc (3 * i + 1) ≡ 3 * i + 2 = omega arith in
+    let rest : List ℕ = drop (suc (3 * i + 2)) ns in
+    ap (λ (k : ℕ). take k ns) three ∙ take-add (3 * i) 3 ns
+    ∙ ap (λ (r : List ℕ). take (3 * i) ns ++ take 3 r)
+    (drop-cons ns (3 * i) 0 (omega arith)
+    ∙ ap (λ (r : List ℕ). kindAt ns i ∷ r) (ap (λ (k : ℕ). drop k ns) one ∙ drop-cons ns (3 * i + 1) 0 (omega arith) ∙ ap (λ (r : List ℕ). leftAt ns i ∷ r) (ap (λ (k : ℕ). drop k ns) two ∙ drop-cons ns (3 * i + 2) 0 (omega arith))))
+
+-- the row of one more node
+unfoldable pub rowMore : Model → List (List ℕ) → ℕ → ℕ → ℕ → List ℕ
+rowMore m rows k a b = nodeRow m (kindOf k) a (getD rows a []) (getD rows b [])
+
+rows-append : (m : Model) (n : ℕ) (rows : List (List ℕ)) (xs : List ℕ) (k a b : ℕ) → length xs ≡ 3 * n → rowsFrom m rows (xs ++ (k ∷ a ∷ b ∷ [])) ≡ rowsFrom m rows xs ++ (rowMore m (rowsFrom m rows xs) k a b ∷ [])
+unfolding rowsFrom rowMore
+rows-append m zero rows [] k a b e = refl
+rows-append m zero rows (x ∷ xs) k a b e = absurd (omega arith)
+rows-append m (suc n) rows [] k a b e = absurd (omega arith)
+rows-append m (suc n) rows (x ∷ []) k a b e = absurd (omega arith)
+rows-append m (suc n) rows (x ∷ y ∷ []) k a b e = absurd (omega arith)
+rows-append m (suc n) rows (x ∷ y ∷ z ∷ xs) k a b e = rows-append m n (rows ++ (nodeRow m (kindOf x) y (getD rows y []) (getD rows z []) ∷ [])) xs k a b (omega arith)
+
+rows-length : (m : Model) (n : ℕ) (rows : List (List ℕ)) (xs : List ℕ) → length xs ≡ 3 * n → length (rowsFrom m rows xs) ≡ length rows + n
+unfolding rowsFrom
+rows-length m zero rows [] e = omega arith
+rows-length m zero rows (x ∷ xs) e = absurd (omega arith)
+rows-length m (suc n) rows [] e = absurd (omega arith)
+rows-length m (suc n) rows (x ∷ []) e = absurd (omega arith)
+rows-length m (suc n) rows (x ∷ y ∷ []) e = absurd (omega arith)
+rows-length m (suc n) rows (x ∷ y ∷ z ∷ xs) e =
+    let row : List ℕ = nodeRow m (kindOf x) y (getD rows y []) (getD rows z []) in
+    rows-length m n (rows ++ (row ∷ [])) xs (omega arith) ∙ omega (arith, length-append rows (row ∷ []))
+
+module _ (m : Model) (ns : List ℕ) where
+  -- the rows of the first i nodes
+  abbrev pub firstRows : ℕ → List (List ℕ)
+  firstRows i = rowsOf m (take (3 * i) ns)
+
+  first-size : (i : ℕ) → i ≤ nodeCount ns → length (take (3 * i) ns) ≡ 3 * i
+  first-size i h = length-take-le (3 * i) ns (omega arith)
+
+  pub rows-count : (i : ℕ) → i ≤ nodeCount ns → length (firstRows i) ≡ i
+  unfolding rowsOf
+  rows-count i h = rows-length m i [] (take (3 * i) ns) (first-size i h) ∙ omega arith
+
+  pub rows-next : (i : ℕ) → i < nodeCount ns → firstRows (i + 1) ≡ firstRows i ++ (rowMore m (firstRows i) (kindAt ns i) (leftAt ns i) (rightAt ns i) ∷ [])
+  unfolding rowsOf
+  rows-next i h = ap (rowsFrom m []) (take-three ns i h) ∙ rows-append m i [] (take (3 * i) ns) (kindAt ns i) (leftAt ns i) (rightAt ns i) (first-size i (omega arith))
+
+  pub rows-none : firstRows 0 ≡ []
+  unfolding rowsOf rowsFrom
+  rows-none = let e : 3 * 0 ≡ 0 = omega arith in ap (λ (k : ℕ). rowsFrom m [] (take k ns)) e
+
+  pub rows-whole : length ns % 3 ≡ 0 → firstRows (nodeCount ns) ≡ rowsOf m ns
+  rows-whole h = let e : 3 * nodeCount ns ≡ length ns = omega arith in ap (rowsOf m) (ap (λ (k : ℕ). take k ns) e ∙ take-length ns)

@@ -1,0 +1,57 @@
+-- Reading an operand's row out of the verdict space.
+use mathlib.Core.Path.{_≡_, refl, ap, _∙_, subst}
+use Prim.Native.Nat.{ℕ, zero, suc, _+_, _*_, _-_, _≤_, _<_}
+use mathlib.Core.List.{List, [], _∷_, _++_}
+use mathlib.Core.Bool.{Bool, true, false, cond, not, _&&_}
+use native.Mathlib.Omega.{arith}
+use native.Mathlib.Nat.{mul-le-mul-right}
+use lib.ListN.{take, drop, replicate, length-replicate}
+use lib.Dec.{leb}
+use borrow.Author.Tests.{lt-ltb, le-ltb, le-leb}
+use Rattle.ctl.specs.Inside.{OperandRead, RowsFit, operandRow, rowBytes}
+use Rattle.kripke.specs.Answers.{rowRead}
+use Rattle.kripke.specs.Limits.{mostStates}
+use Rattle.kripke.specs.Rows.{badRow, rowBegin, rowSize, rowValues}
+use Rattle.lists.specs.Entries.{at}
+use Rattle.kripke.proofs.StoredRows.{row-read}
+use Rattle.lists.proofs.Tests.{and-both}
+use Rattle.kripke.specs.declared.rows.Row.{Row}
+
+zero-at : (n s : ℕ) → at (replicate n 0) s ≡ 0
+zero-at zero s = refl
+zero-at (suc n) zero = refl
+zero-at (suc n) (suc s) = zero-at n s
+
+-- zeros behind a row change no value
+behind-zeros : (xs : List ℕ) (n s : ℕ) → at (xs ++ replicate n 0) s ≡ at xs s
+behind-zeros [] n s = zero-at n s
+behind-zeros (x ∷ xs) n zero = refl
+behind-zeros (x ∷ xs) n (suc s) = behind-zeros xs n s
+
+-- what is no earlier node has no row
+pub operand-none : (S : ℕ) (space : List ℕ) (i k : ℕ) → i ≤ k → OperandRead S space i k (replicate mostStates 0)
+unfolding operandRow
+operand-none S space i k h = record { long = length-replicate {A = ℕ} mostStates 0; here = λ s. zero-at mostStates s ∙ rw (le-ltb k i h) }
+
+pub operand-row : (S : ℕ) (space : List ℕ) (i k : ℕ) → RowsFit S i space → k < i → (r : Row) (bytes : List ℕ) → bytes ≡ rowBytes S k space → r ≡ rowRead S bytes → OperandRead S space i k (r .values)
+unfolding operandRow rowRead
+operand-row S space i k fit h r bytes b e =
+    let fine : badRow S bytes ≡ false = ap (badRow S) b ∙ fit .stand k h in
+    let valid : (leb S mostStates && not (badRow S bytes)) ≡ true = and-both _ _ (le-leb S mostStates (fit .few)) (ap not fine) in
+    let taken = row-read S bytes r e (ap (λ (x : Row). x .valid) e ∙ valid) in
+    record {
+      long = taken .long;
+      here = λ s. ap (λ (x : Row). at (x .values) s) e ∙ ap (λ (t : Bool). at (cond t (rowValues S bytes ++ replicate (mostStates - S) 0) (replicate mostStates 0)) s) valid ∙ behind-zeros (rowValues S bytes) (mostStates - S) s ∙ ap (λ (x : List ℕ). at (rowValues S x) s) b ∙ rw (lt-ltb k i h);
+    }
+
+-- the part that is lent holds the row's bytes
+pub operand-bytes : (S : ℕ) (space : List ℕ) (k size : ℕ) → size ≡ rowSize S → take (k * size + size - k * size) (drop (k * size) space) ≡ rowBytes S k space
+unfolding rowBytes rowBegin
+operand-bytes S space k size e =
+    let q : k * size + size - k * size ≡ size = omega arith in
+    ap (λ (n : ℕ). take n (drop (k * size) space)) q ∙ ap (λ (n : ℕ). take n (drop (k * n) space)) e
+
+-- rows before i end before row i begins
+pub operand-ends : (S k i size : ℕ) → size ≡ rowSize S → k < i → k * size + size ≤ rowBegin S i
+unfolding rowBegin
+operand-ends S k i size e h = subst (λ (n : ℕ). k * size + size ≤ i * n) e (omega (arith, mul-le-mul-right size h))

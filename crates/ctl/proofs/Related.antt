@@ -1,0 +1,80 @@
+-- A relation between values that not, and, or keep holds of all rows of two models if it holds of their labels.
+use mathlib.Core.Path.{_≡_, refl, _∙_}
+use Prim.Native.Nat.{ℕ, zero, suc, _+_, _*_, _≤_, _<_}
+use mathlib.Core.List.{List, [], _∷_, _++_}
+use mathlib.Core.Bool.{true, false}
+use mathlib.Core.Logic.{⊎-elim}
+use native.Mathlib.Omega.{arith}
+use lib.ListN.{length, getD, length-append, List·getD-eq-default}
+use Rattle.ctl.specs.Answers.{modelOf}
+use Rattle.ctl.specs.Nodes.{AND, ATOM, AU, EU, EX, Kind, NOT, TRUE, kindOf, nodeRow, nodeValue}
+use Rattle.ctl.specs.Rows.{rowsFrom, rowsOf}
+use Rattle.kripke.specs.Values.{neg, top}
+use Rattle.lists.specs.Entries.{at}
+use Rattle.lists.specs.Rows.{tab}
+use Rattle.kripke.proofs.Least.{least}
+use Rattle.kripke.proofs.Related.{Kept, RowRelated, next-related, until-related}
+use Rattle.lists.proofs.Numbers.{lt-or-le}
+use Rattle.lists.proofs.Rows.{length-tab, tab-at}
+
+pub record Kleene (Rel : ℕ → ℕ → Type 0) : Type 0 where
+  pub kept : Kept Rel
+  pub true-true : Rel top top
+  pub turned : (a b : ℕ) → Rel a b → Rel (neg a) (neg b)
+
+module _ (Rel : ℕ → ℕ → Type 0) (K : Kleene Rel) where
+  -- two rows filled by related rules; past the end both have 0
+  tab-related : (f g : ℕ → ℕ) (n : ℕ) → ((s : ℕ) → Rel (f s) (g s)) → RowRelated Rel (K .kept) (tab f n) (tab g n)
+  tab-related f g n h s =
+      ⊎-elim
+      (λ (l : s < n). rw (tab-at f n s l, tab-at g n s l) (h s))
+      (λ (l : n ≤ s). rw (List·getD-eq-default (tab f n) 0 {n = s} (rw (length-tab f n) l), List·getD-eq-default (tab g n) 0 {n = s} (rw (length-tab g n) l)) (K .kept .none))
+      (lt-or-le s n)
+
+  -- two lists of as many rows, related at every node and state
+  pub record RowsRelated (xs ys : List (List ℕ)) : Type 0 where
+    pub count : length xs ≡ length ys
+    pub here : (k s : ℕ) → Rel (at (getD xs k []) s) (at (getD ys k []) s)
+
+  rows-more : (xs ys : List (List ℕ)) → RowsRelated xs ys → (x y : List ℕ) → RowRelated Rel (K .kept) x y → RowsRelated (xs ++ (x ∷ [])) (ys ++ (y ∷ []))
+  rows-more xs ys r x y h = record { count = length-append xs (x ∷ []) ∙ omega (arith, length-append ys (y ∷ []), r .count); here = go xs ys (r .count) (r .here) }
+    where
+      go : (xs ys : List (List ℕ)) → length xs ≡ length ys → ((k s : ℕ) → Rel (at (getD xs k []) s) (at (getD ys k []) s)) → (k s : ℕ) → Rel (at (getD (xs ++ (x ∷ [])) k []) s) (at (getD (ys ++ (y ∷ [])) k []) s)
+      go [] [] e r zero s = h s
+      go [] [] e r (suc k) s = K .kept .none
+      go [] (v ∷ ys) e r k s = absurd (omega arith)
+      go (u ∷ xs) [] e r k s = absurd (omega arith)
+      go (u ∷ xs) (v ∷ ys) e r zero s = r 0 s
+      go (u ∷ xs) (v ∷ ys) e r (suc k) s = go xs ys (omega arith) (λ k s. r (suc k) s) k s
+
+  module _ (S A : ℕ) (es labels labels′ : List ℕ) (lab : (i : ℕ) → Rel (at labels i) (at labels′ i)) where
+    pub node-related : (k : Kind) (a : ℕ) (L M R Q : List ℕ) → RowRelated Rel (K .kept) L M → RowRelated Rel (K .kept) R Q → (s : ℕ) → Rel (nodeValue (modelOf S A labels es) k a L R s) (nodeValue (modelOf S A labels′ es) k a M Q s)
+    unfolding nodeValue
+    node-related TRUE a L M R Q l r s = K .true-true
+    node-related ATOM a L M R Q l r s = lab (s * A + a)
+    node-related NOT a L M R Q l r s = K .turned (at L s) (at M s) (l s)
+    node-related AND a L M R Q l r s = K .kept .least (at L s) (at M s) (at R s) (at Q s) (l s) (r s)
+    node-related EX a L M R Q l r s = next-related Rel (K .kept) false es L M l s
+    node-related EU a L M R Q l r s = until-related Rel (K .kept) false es L M R Q l r S s
+    node-related AU a L M R Q l r s = until-related Rel (K .kept) true es L M R Q l r S s
+
+    rows-from : (xs ys : List (List ℕ)) → RowsRelated xs ys → (ns : List ℕ) → RowsRelated (rowsFrom (modelOf S A labels es) xs ns) (rowsFrom (modelOf S A labels′ es) ys ns)
+    unfolding rowsFrom nodeRow
+    rows-from xs ys h [] = h
+    rows-from xs ys h (k ∷ []) = h
+    rows-from xs ys h (k ∷ a ∷ []) = h
+    rows-from xs ys h (k ∷ a ∷ b ∷ ns) =
+        rows-from _ _
+        (rows-more xs ys h _ _ (tab-related _ _ S (node-related (kindOf k) a (getD xs a []) (getD ys a []) (getD xs b []) (getD ys b []) (h .here a) (h .here b))))
+        ns
+
+    pub rows-related : (ns : List ℕ) → RowsRelated (rowsOf (modelOf S A labels es) ns) (rowsOf (modelOf S A labels′ es) ns)
+    unfolding rowsOf
+    rows-related ns = rows-from [] [] (record { count = refl; here = λ k s. K .kept .none }) ns
+
+-- values stay within 0 to 2
+pub small-kept : Kept (λ (a b : ℕ). a ≤ top)
+small-kept = record { none = omega arith; least = λ a b x y h k. omega arith; greatest = λ a b x y h k. omega arith }
+
+pub small : Kleene (λ (a b : ℕ). a ≤ top)
+small = record { kept = small-kept; true-true = omega arith; turned = λ a b h. omega arith }

@@ -1,0 +1,101 @@
+-- A verdict space that holds rows of S values side by side: where each lies, and one row more.
+use mathlib.Core.Path.{_≡_, refl, sym, ap, ap₂, _∙_, subst}
+use Prim.Native.Nat.{ℕ, zero, suc, _+_, _≤_, _<_}
+use mathlib.Core.List.{List, [], _∷_, _++_, append-assoc, append-nil}
+use mathlib.Core.Bool.{false}
+use mathlib.Core.Logic.{⊎-elim}
+use native.Mathlib.Omega.{arith}
+use lib.ListN.{length, getD, drop, length-append, length-drop, List·getD-eq-default}
+use lib.Seq.{take-at, drop-drop, drop-append-add}
+use borrow.Author.Tests.{lt-ltb, le-ltb}
+use Rattle.ctl.specs.Inside.{RowsFit, operandRow, rowBytes, withRowAt}
+use Rattle.ctl.specs.Rows.{spaceWith, storedRows}
+use Rattle.kripke.specs.Limits.{mostStates}
+use Rattle.kripke.specs.Rows.{badRow, rowBegin, rowSize, rowValues, storedRow}
+use Rattle.kripke.specs.Values.{top}
+use Rattle.lists.specs.Entries.{All, at}
+use Rattle.kripke.proofs.StoredRows.{stored-size, stored-valid, stored-values}
+use Rattle.lists.proofs.Entries.{all-get}
+use Rattle.lists.proofs.Numbers.{lt-or-le}
+
+-- a row of S values, each at most 2
+pub record RowFine (S : ℕ) (row : List ℕ) : Type 0 where
+  pub size : length row ≡ S
+  pub small : (s : ℕ) → at row s ≤ top
+
+fine-stored : (S : ℕ) (row : List ℕ) → RowFine S row → length (storedRow row) ≡ rowSize S
+fine-stored S row f = stored-size row ∙ ap rowSize (f .size)
+
+begin-next : (S k : ℕ) → rowBegin S (suc k) ≡ rowSize S + rowBegin S k
+unfolding rowBegin
+begin-next S k = omega arith
+
+begin-zero : (S : ℕ) → rowBegin S 0 ≡ 0
+unfolding rowBegin
+begin-zero S = omega arith
+
+pub stored-length : (S : ℕ) (rows : List (List ℕ)) → All (RowFine S) rows → length (storedRows rows) ≡ rowBegin S (length rows)
+unfolding storedRows
+stored-length S [] f = sym (begin-zero S)
+stored-length S (row ∷ rows) f = length-append (storedRow row) (storedRows rows) ∙ omega (arith, fine-stored S row (f .0), stored-length S rows (f .1), begin-next S (length rows))
+
+pub space-none : (before : List ℕ) → spaceWith [] before ≡ before
+unfolding spaceWith storedRows
+space-none before = refl
+
+stored-more : (rows : List (List ℕ)) (row : List ℕ) → storedRows (rows ++ (row ∷ [])) ≡ storedRows rows ++ storedRow row
+unfolding storedRows
+stored-more [] row = append-nil (storedRow row)
+stored-more (x ∷ rows) row = ap (λ (r : List ℕ). storedRow x ++ r) (stored-more rows row) ∙ sym (append-assoc (storedRow x) (storedRows rows) (storedRow row))
+
+-- row k stands where it begins
+bytes-at : (S : ℕ) (rows : List (List ℕ)) → All (RowFine S) rows → (rest : List ℕ) (k : ℕ) → k < length rows → rowBytes S k (storedRows rows ++ rest) ≡ storedRow (getD rows k [])
+unfolding storedRows rowBytes
+bytes-at S [] f rest k h = absurd (omega arith)
+bytes-at S (row ∷ rows) f rest zero h =
+    rw (begin-zero S, append-assoc (storedRow row) (storedRows rows) rest) (take-at (storedRow row) (storedRows rows ++ rest) (rowSize S) (fine-stored S row (f .0)))
+bytes-at S (row ∷ rows) f rest (suc k) h =
+    rw (begin-next S k, append-assoc (storedRow row) (storedRows rows) rest, ← fine-stored S row (f .0), drop-append-add (storedRow row) (storedRows rows ++ rest) (rowBegin S k), fine-stored S row (f .0))
+    (bytes-at S rows (f .1) rest k (omega arith))
+
+module _ (S : ℕ) (rows : List (List ℕ)) (fine : All (RowFine S) rows) (before : List ℕ) (room : rowBegin S (length rows) ≤ length before) where
+  pub space-length : length (spaceWith rows before) ≡ length before
+  unfolding spaceWith
+  space-length = length-append (storedRows rows) (drop (length (storedRows rows)) before) ∙ omega (arith, length-drop (length (storedRows rows)) before, stored-length S rows fine)
+
+  row-in-space : (k : ℕ) → k < length rows → rowBytes S k (spaceWith rows before) ≡ storedRow (getD rows k [])
+  unfolding spaceWith
+  row-in-space k h = bytes-at S rows fine (drop (length (storedRows rows)) before) k h
+
+  fine-at : (k : ℕ) → k < length rows → RowFine S (getD rows k [])
+  fine-at k h = all-get (RowFine S) [] rows fine k h
+
+  -- every row stands, and an operand's row is read back as it is
+  pub rows-fit : S ≤ mostStates → RowsFit S (length rows) (spaceWith rows before)
+  rows-fit few =
+      record {
+        few = few;
+        within = omega (arith, space-length);
+        stand = λ k h. rw (row-in-space k h) (subst (λ (n : ℕ). badRow n (storedRow (getD rows k [])) ≡ false) (fine-at k h .size) (stored-valid (getD rows k []) (fine-at k h .small)));
+      }
+
+  pub operand-in-space : (k : ℕ) → operandRow S (spaceWith rows before) (length rows) k ≡ getD rows k []
+  unfolding operandRow
+  operand-in-space k =
+      ⊎-elim
+      (λ (h : k < length rows). rw (lt-ltb k (length rows) h, row-in-space k h) (subst (λ (n : ℕ). rowValues n (storedRow (getD rows k [])) ≡ getD rows k []) (fine-at k h .size) (stored-values (getD rows k []))))
+      (λ (h : length rows ≤ k). rw (le-ltb k (length rows) h) (sym (List·getD-eq-default rows [] h)))
+      (lt-or-le k (length rows))
+
+  -- one row more
+  pub space-more : (row : List ℕ) → RowFine S row → withRowAt S (length rows) row (spaceWith rows before) ≡ spaceWith (rows ++ (row ∷ [])) before
+  unfolding withRowAt spaceWith
+  space-more row f =
+      let n : ℕ = length (storedRows rows) in
+      let place : rowBegin S (length rows) ≡ n = sym (stored-length S rows fine) in
+      let size : length (storedRow row) ≡ rowSize S = fine-stored S row f in
+      let whole : length (storedRows rows ++ storedRow row) ≡ n + rowSize S = length-append (storedRows rows) (storedRow row) ∙ omega arith in
+      rw (place, stored-more rows row)
+      (ap₂ _++_ (take-at (storedRows rows) (drop n before) n refl) (ap (λ (r : List ℕ). storedRow row ++ r) (drop-append-add (storedRows rows) (drop n before) (rowSize S) ∙ drop-drop (rowSize S) n before))
+      ∙ sym (append-assoc (storedRows rows) (storedRow row) (drop (n + rowSize S) before))
+      ∙ ap (λ (k : ℕ). (storedRows rows ++ storedRow row) ++ drop k before) (sym whole))

@@ -1,0 +1,49 @@
+-- The rows of a node list, the verdict space that holds them, and the model's verdict.
+use Prim.Native.Nat.{ℕ, _/_, _-_}
+use mathlib.Core.List.{List, [], _∷_, _++_, map}
+use mathlib.Core.Bool.{Bool, cond, _&&_}
+use lib.ListN.{length, getD, drop}
+use lib.Dec.{eqb}
+use Rattle.lists.specs.Entries.{at, anyBelow}
+use Rattle.kripke.specs.Rows.{storedRow}
+use Rattle.ctl.specs.Nodes.{Model, kindOf, nodeRow}
+
+-- how many nodes there are: three numbers each
+abbrev pub nodeCount : List ℕ → ℕ
+nodeCount ns = length ns / 3
+
+-- the rows so far, and those of the nodes to come, each from its operands' rows
+unfoldable pub rowsFrom : Model → List (List ℕ) → List ℕ → List (List ℕ)
+rowsFrom m rows [] = rows
+rowsFrom m rows (k ∷ []) = rows
+rowsFrom m rows (k ∷ a ∷ []) = rows
+rowsFrom m rows (k ∷ a ∷ b ∷ ns) = rowsFrom m (rows ++ (nodeRow m (kindOf k) a (getD rows a []) (getD rows b []) ∷ [])) ns
+
+-- the row of every node
+unfoldable pub rowsOf : Model → List ℕ → List (List ℕ)
+rowsOf m ns = rowsFrom m [] ns
+
+-- the verdict of node k at a state
+unfoldable pub verdictAt : Model → List ℕ → ℕ → ℕ → ℕ
+verdictAt m ns k s = at (getD (rowsOf m ns) k []) s
+
+-- rows as they are stored, one after the other
+unfoldable pub storedRows : List (List ℕ) → List ℕ
+storedRows [] = []
+storedRows (row ∷ rows) = storedRow row ++ storedRows rows
+
+-- the space afterwards: the rows at its front, and beyond the last one what was there
+unfoldable pub spaceWith : List (List ℕ) → List ℕ → List ℕ
+spaceWith rows before = storedRows rows ++ drop (length (storedRows rows)) before
+
+-- state s is initial and has this value in a row
+abbrev pub initialWith : List ℕ → List ℕ → ℕ → ℕ → Bool
+initialWith initial row v s = eqb (at initial s) 1 && eqb (at row s) v
+
+-- over the initial states: 1 if any of them has 1, otherwise 0 if any has 0, otherwise 2
+unfoldable pub overInitial : ℕ → List ℕ → List ℕ → ℕ
+overInitial S initial row = cond (anyBelow (initialWith initial row 1) S) 1 (cond (anyBelow (initialWith initial row 0) S) 0 2)
+
+-- the model's verdict is that of the last node over the initial states
+unfoldable pub modelVerdict : Model → List ℕ → List ℕ → ℕ
+modelVerdict m initial ns = overInitial (m .states) initial (getD (rowsOf m ns) (nodeCount ns - 1) [])
