@@ -1,24 +1,29 @@
 -- What judging may lean on once nothing is refused, and what it answers at each of its returns.
-use mathlib.Core.Path.{_≡_, ap, _∙_, subst}
+use mathlib.Core.Path.{_≡_, sym, ap, _∙_, subst}
 use Prim.Native.Nat.{ℕ, _*_, _≤_, _<_}
-use mathlib.Core.List.{List}
+use mathlib.Core.List.{List, []}
 use mathlib.Core.Bool.{false, not}
-use lib.ListN.{length}
+use native.Mathlib.Omega.{arith}
+use lib.ListN.{length, getD, take, drop}
+use lib.Seq.{drop-at}
 use lib.Dec.{eqb, ltb}
 use borrow.Author.Tests.{ne-eqb, ltb-true, ltb-false, eqb-true, not-false}
 use Rattle.ctl.specs.Answers.{Judging, judgedAs, modelOf}
 use Rattle.ctl.specs.Inside.{AtomFits, Judgeable, NodesFit}
 use Rattle.ctl.specs.Nodes.{Kind, bound, kindOf, leftUse, rightUse}
 use Rattle.ctl.specs.Refusals.{badInitial, badNodes, badOperand, judgeRefusal, kindAt, leftAt, rightAt}
-use Rattle.ctl.specs.Rows.{modelVerdict, nodeCount, rowsOf, spaceWith}
+use Rattle.ctl.specs.Rows.{modelVerdict, nodeCount, rowsOf, spaceWith, storedRows}
 use Rattle.kripke.specs.Answers.{transitionsRead, verdict}
 use Rattle.kripke.specs.Limits.{greatestKind, mostAtoms}
 use Rattle.kripke.specs.Refusals.{badCount, badList, falls, leaves, tableRefusal}
-use Rattle.kripke.specs.Rows.{rowBegin, someAbove}
+use Rattle.kripke.specs.Rows.{rowBegin, rowSize, someAbove, valueAt}
 use Rattle.kripke.specs.Transitions.{count, succs}
 use Rattle.kripke.specs.Values.{top}
-use Rattle.lists.specs.Entries.{anyBelow, at, isNil}
+use Rattle.lists.specs.Entries.{All, anyBelow, at, isNil}
+use Rattle.ctl.proofs.FineRows.{rows-fine}
 use Rattle.ctl.proofs.Lowest.{nodes-size}
+use Rattle.ctl.proofs.NodeLists.{rows-count, rows-whole}
+use Rattle.ctl.proofs.Spaces.{RowFine, stored-length, value-in-space}
 use Rattle.kripke.proofs.Read.{begun}
 use Rattle.kripke.proofs.StoredRows.{none-above}
 use Rattle.lists.proofs.Causes.{none-refused, passed, skipped}
@@ -95,3 +100,28 @@ module _ (S A : ℕ) (labels initial es ns : List ℕ) where
   pub judged-rows : (before after : List ℕ) (r : Judged) → judgeRefusal S A labels initial es ns (length before) ≡ 0 → after ≡ spaceWith (rowsOf (modelOf S A labels es) ns) before → r ≡ Verdicts (verdict (modelVerdict (modelOf S A labels es) initial ns)) → Judging S A labels initial es ns before after r
   unfolding judgedAs
   judged-rows before after r z e v = record { answer = v ∙ rw z; space = e ∙ rw z }
+
+-- what a space holds after judging: each row where it begins, value by value, and beyond the last row what was there
+module _ (S A : ℕ) (labels initial es ns before : List ℕ) (z : judgeRefusal S A labels initial es ns (length before) ≡ 0) (after : List ℕ) (e : after ≡ spaceWith (rowsOf (modelOf S A labels es) ns) before) where
+  abbrev rows : List (List ℕ)
+  rows = rowsOf (modelOf S A labels es) ns
+
+  all-fine : All (RowFine S) rows
+  all-fine = rows-fine S A labels es (judge-fine S A labels initial es ns (length before) z .small) ns
+
+  as-many : length rows ≡ nodeCount ns
+  as-many =
+      let f = judge-fine S A labels initial es ns (length before) z in
+      ap length (sym (rows-whole (modelOf S A labels es) ns (f .nodes .triples))) ∙ rows-count (modelOf S A labels es) ns (nodeCount ns) (omega arith)
+
+  room : rowBegin S (length rows) ≤ length before
+  room = rw as-many (judge-fine S A labels initial es ns (length before) z .space)
+
+  pub held-value : (k s : ℕ) → k < nodeCount ns → s < S → valueAt (take (rowSize S) (drop (rowBegin S k) after)) s ≡ at (getD rows k []) s
+  held-value k s h l = ap (λ (v : List ℕ). valueAt (take (rowSize S) (drop (rowBegin S k) v)) s) e ∙ value-in-space S rows all-fine before room k s (rw as-many h) l
+
+  pub held-beyond : drop (rowBegin S (nodeCount ns)) after ≡ drop (rowBegin S (nodeCount ns)) before
+  unfolding spaceWith
+  held-beyond =
+      let n : length (storedRows rows) ≡ rowBegin S (nodeCount ns) = stored-length S rows all-fine ∙ ap (rowBegin S) as-many in
+      ap (drop (rowBegin S (nodeCount ns))) e ∙ drop-at (storedRows rows) (drop (length (storedRows rows)) before) (rowBegin S (nodeCount ns)) n ∙ ap (λ (k : ℕ). drop k before) n

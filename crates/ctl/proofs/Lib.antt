@@ -11,3 +11,5 @@ pub mod OverInitial
 pub mod UntilRows
 pub mod FineRows
 pub mod JudgeLaws
+pub mod OneAnswer
+pub mod Unknowns

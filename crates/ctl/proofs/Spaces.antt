@@ -5,18 +5,20 @@ use mathlib.Core.List.{List, [], _∷_, _++_, append-assoc, append-nil}
 use mathlib.Core.Bool.{false}
 use mathlib.Core.Logic.{⊎-elim}
 use native.Mathlib.Omega.{arith}
-use lib.ListN.{length, getD, drop, length-append, length-drop, List·getD-eq-default}
+use lib.ListN.{length, getD, take, drop, length-append, length-drop, List·getD-eq-default}
 use lib.Seq.{take-at, drop-drop, drop-append-add}
 use borrow.Author.Tests.{lt-ltb, le-ltb}
 use Rattle.ctl.specs.Inside.{RowsFit, operandRow, rowBytes, withRowAt}
 use Rattle.ctl.specs.Rows.{spaceWith, storedRows}
 use Rattle.kripke.specs.Limits.{mostStates}
-use Rattle.kripke.specs.Rows.{badRow, rowBegin, rowSize, rowValues, storedRow}
+use Rattle.kripke.specs.Rows.{badRow, rowBegin, rowSize, rowValues, storedRow, valueAt}
 use Rattle.kripke.specs.Values.{top}
 use Rattle.lists.specs.Entries.{All, at}
+use Rattle.lists.specs.Rows.{tab}
 use Rattle.kripke.proofs.StoredRows.{stored-size, stored-valid, stored-values}
 use Rattle.lists.proofs.Entries.{all-get}
 use Rattle.lists.proofs.Numbers.{lt-or-le}
+use Rattle.lists.proofs.Rows.{tab-at}
 
 -- a row of S values, each at most 2
 pub record RowFine (S : ℕ) (row : List ℕ) : Type 0 where
@@ -86,6 +88,13 @@ module _ (S : ℕ) (rows : List (List ℕ)) (fine : All (RowFine S) rows) (befor
       (λ (h : k < length rows). rw (lt-ltb k (length rows) h, row-in-space k h) (subst (λ (n : ℕ). rowValues n (storedRow (getD rows k [])) ≡ getD rows k []) (fine-at k h .size) (stored-values (getD rows k []))))
       (λ (h : length rows ≤ k). rw (le-ltb k (length rows) h) (sym (List·getD-eq-default rows [] h)))
       (lt-or-le k (length rows))
+
+  pub value-in-space : (k s : ℕ) → k < length rows → s < S → valueAt (take (rowSize S) (drop (rowBegin S k) (spaceWith rows before))) s ≡ at (getD rows k []) s
+  unfolding rowBytes rowValues
+  value-in-space k s h l =
+      let row : List ℕ = getD rows k [] in
+      let back : tab (valueAt (storedRow row)) S ≡ row = subst (λ (n : ℕ). tab (valueAt (storedRow row)) n ≡ row) (fine-at k h .size) (stored-values row) in
+      ap (λ (bytes : List ℕ). valueAt bytes s) (row-in-space k h) ∙ sym (tab-at (valueAt (storedRow row)) S s l) ∙ ap (λ (v : List ℕ). at v s) back
 
   -- one row more
   pub space-more : (row : List ℕ) → RowFine S row → withRowAt S (length rows) row (spaceWith rows before) ≡ spaceWith (rows ++ (row ∷ [])) before

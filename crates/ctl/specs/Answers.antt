@@ -19,6 +19,11 @@ modelOf S A labels es = record { states = S; atoms = A; labels = labels; transit
 unfoldable pub judgedAs : ℕ → ℕ → Judged
 judgedAs n v = cond (eqb n 0) (Verdicts (verdict v)) (Refused n)
 
+-- the paper's number of an answer
+unfoldable pub numberOf : Judged → ℕ
+numberOf (Verdicts v) = 0
+numberOf (Refused n) = n
+
 -- `judge`: the refusal or the model's verdict, and the rows in the space where nothing is refused
 pub record Judging (S A : ℕ) (labels initial es ns before after : List ℕ) (r : Judged) : Type 0 where
   pub answer : r ≡ judgedAs (judgeRefusal S A labels initial es ns (length before)) (modelVerdict (modelOf S A labels es) initial ns)

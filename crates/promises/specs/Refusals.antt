@@ -1,0 +1,22 @@
+-- Demand 1, for judging. "Whatever tables, lists or text we hand it, it ends with an answer or a numbered refusal. Nobody has to check
+-- anything first." No public call has a condition on its input, and each is proved to end; what it answers is said here.
+use mathlib.Core.Path.{_≡_}
+use Prim.Native.Nat.{ℕ}
+use mathlib.Core.List.{List}
+use lib.ListN.{length}
+use Rattle.lists.specs.Causes.{Given}
+use Rattle.ctl.specs.declared.Judged.{Judged}
+use Rattle.ctl.specs.Refusals.{judgeCauses}
+use Rattle.ctl.specs.Answers.{Judging, numberOf}
+
+-- "A refusal changes nothing we lent."
+abbrev pub RefusalKeeps : Type 0
+RefusalKeeps = (S A : ℕ) (labels initial es ns before after : List ℕ) (r : Judged) → Judging S A labels initial es ns before after r → (numberOf r ≡ 0 → ⊥) → after ≡ before
+
+-- The number is the lowest that applies, and it is given only then; 0 where none does.
+abbrev pub RefusalLowest : Type 0
+RefusalLowest = (S A : ℕ) (labels initial es ns before after : List ℕ) (r : Judged) → Judging S A labels initial es ns before after r → Given (judgeCauses S A labels initial es ns (length before)) (numberOf r)
+
+-- "Every answer is pinned down to the last entry." Any two answers that `judge` may give coincide, and so do the spaces.
+abbrev pub OneAnswer : Type 0
+OneAnswer = (S A : ℕ) (labels initial es ns before after after′ : List ℕ) (r r′ : Judged) → Judging S A labels initial es ns before after r → Judging S A labels initial es ns before after′ r′ → (r ≡ r′) × (after ≡ after′)

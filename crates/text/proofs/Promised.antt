@@ -1,0 +1,84 @@
+-- What the promise of `read_model` settles: one answer, tables that a refusal leaves, and the texts that are read: the prints of printable models.
+use Prim.Native.Nat.{ℕ, _≤_}
+use mathlib.Core.Path.{_≡_, refl, ap, sym, _∙_}
+use mathlib.Core.List.{List, [], _∷_}
+use mathlib.Core.Bool.{Bool, true, false, cond}
+use native.Mathlib.Omega.{arith}
+use lib.ListN.{length}
+use lib.Dec.{ltb}
+use borrow.Author.Tests.{le-ltb}
+use Rattle.kripke.specs.Limits.{mostText}
+use Rattle.text.specs.Readers.{Reading}
+use Rattle.text.specs.Readers.Reading.{found, ends, refused}
+use Rattle.text.specs.Form.{Model, modelText}
+use Rattle.text.specs.Print.{print, Printable, Accepted}
+use Rattle.text.specs.Promise.{Tables, Outcome, settled, anyShort, outcome, numberOf, countsOf, numberDue, countsDue, tablesDue, ModelRead}
+use Rattle.text.specs.Promise.Outcome.{model, refusal}
+use Rattle.text.specs.declared.Read.{Read}
+use Rattle.text.specs.declared.Read.the-variants as read
+use Rattle.text.proofs.Readings.{found-same}
+use Rattle.text.proofs.Printed.{model-reads, model-back}
+
+-- a number and values say which answer it is
+answer-one : (r r′ : Read) → numberOf r ≡ numberOf r′ → countsOf r ≡ countsOf r′ → r ≡ r′
+answer-one (read.Model s a e f) (read.Model s′ a′ e′ f′) n c = cc
+answer-one (read.Refused m) (read.Refused m′) n c = ap read.Refused n
+answer-one (read.Model s a e f) (read.Refused m) n c = absurd (let z : _≡_ {A = ℕ} 0 1 = cc in omega arith)
+answer-one (read.Refused m) (read.Model s a e f) n c = absurd (let z : _≡_ {A = ℕ} 0 1 = cc in omega arith)
+
+-- any two permitted answers coincide, the tables too
+pub one-answer : (text : List ℕ) (before after after′ : Tables) (r r′ : Read) → ModelRead text before after r → ModelRead text before after′ r′ → (r ≡ r′) × (after ≡ after′)
+one-answer text before after after′ r r′ p q = (answer-one r r′ (p .number ∙ sym (q .number)) (p .counts ∙ sym (q .counts)), p .lent ∙ sym (q .lent))
+
+-- a refusal changes no table
+pub refusal-leaves : (text : List ℕ) (before after : Tables) (n : ℕ) → ModelRead text before after (read.Refused n) → after ≡ before
+refusal-leaves text before after n p = p .lent ∙ same (outcome before text) (p .counts)
+  where
+    same : (o : Outcome) → [] ≡ countsDue o → tablesDue o before ≡ before
+    same (refusal m) e = refl
+    same (model m) e = absurd (let z : _≡_ {A = ℕ} 0 1 = cc in omega arith)
+
+-- no two printable models have one print, and a text has one reading
+pub print-one : (m m′ : Model) → Printable m → Printable m′ → print m ≡ print m′ → m ≡ m′
+print-one m m′ g g′ e = found-same (sym (model-reads m g) ∙ ap modelText e ∙ model-reads m′ g′) .0
+
+-- the form reads a text exactly if it is the print of a printable model
+pub well-formed : (text : List ℕ) (m : Model) → modelText text ≡ found m [] → (text ≡ print m) × Printable m
+well-formed text m e = model-back text m [] e
+
+pub formed-well : (text : List ℕ) (m : Model) → text ≡ print m → Printable m → modelText text ≡ found m []
+formed-well text m e g = ap modelText e ∙ model-reads m g
+
+outcome-print : (before : Tables) (m : Model) → Printable m → anyShort before ≡ false → length (print m) ≤ mostText → outcome before (print m) ≡ model m
+unfolding outcome
+outcome-print before m g h b =
+    simp (h, le-ltb mostText (length (print m)) b) (ap settled (model-reads m g))
+
+-- `read_model` reads the print of a printable model as that model, where it is within the text limit and no table is too short
+pub print-read : (before after : Tables) (m : Model) (r : Read) → Printable m → anyShort before ≡ false → length (print m) ≤ mostText → ModelRead (print m) before after r
+    → (r ≡ read.Model (m .labelled .states) (m .labelled .atoms) (m .transitions .count) (m .nodes .count)) × (after ≡ tablesDue (model m) before)
+print-read before after m r g h b p =
+    let e = outcome-print before m g h b in (
+      answer-one r (read.Model (m .labelled .states) (m .labelled .atoms) (m .transitions .count) (m .nodes .count)) (p .number ∙ ap numberDue e) (p .counts ∙ ap countsDue e),
+      p .lent ∙ ap (λ (o : Outcome). tablesDue o before) e,
+    )
+
+-- whatever is accepted is the print of what was read
+pub read-print : (text : List ℕ) (before after : Tables) (s a e f : ℕ) → ModelRead text before after (read.Model s a e f) → Accepted text before after s a e f
+unfolding outcome
+read-print text before after s a e f p =
+    by (anyShort before) (ltb mostText (length text)) (outcome before text) refl (p .counts) (p .lent)
+  where
+    no-counts : [] ≡ s ∷ a ∷ e ∷ f ∷ [] → ⊥
+    no-counts q = let z : _≡_ {A = ℕ} 0 1 = cc in omega arith
+
+    all : (o : Reading Model) → modelText text ≡ o → s ∷ a ∷ e ∷ f ∷ [] ≡ countsDue (settled o) → after ≡ tablesDue (settled o) before → Accepted text before after s a e f
+    all (found m rest) q c l = let w = model-back text m rest q in record { held = m; printed = w .0; printable = w .1; counts = c; lent = l }
+    all ends q c l = absurd (no-counts (sym c))
+    all (refused n) q c l = absurd (no-counts (sym c))
+
+    by : (x y : Bool) (o : Outcome) → o ≡ cond x (refusal 24) (cond y (refusal 18) (settled (modelText text)))
+        → s ∷ a ∷ e ∷ f ∷ [] ≡ countsDue o → after ≡ tablesDue o before → Accepted text before after s a e f
+    by true y o q c l = absurd (no-counts (sym (c ∙ ap countsDue q)))
+    by false true o q c l = absurd (no-counts (sym (c ∙ ap countsDue q)))
+    by false false o q c l = all (modelText text) refl (c ∙ ap countsDue q) (l ∙ ap (λ (x : Outcome). tablesDue x before) q)

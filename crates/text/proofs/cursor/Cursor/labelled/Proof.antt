@@ -1,0 +1,96 @@
+-- `labelled` meets its contract. The two counts and then the rows, each by the answer before it.
+use native.Mathlib.Omega.{arith}
+use borrow.Author.Needs.{needs}
+use mathlib.Core.Path.{ap, sym, _∙_}
+use denote.Ref.{now}
+use lib.ListN.{drop}
+use native.Mathlib.Nat.{mul-le-mul, mul-comm}
+use Rattle.kripke.specs.Limits.{mostStates, mostAtoms}
+use Rattle.text.specs.Form.{labelledText, keyStates, keyAtoms}
+use Rattle.text.specs.Answers.{told, first, labelledIn}
+use Rattle.text.proofs.Inverse.{count-inverse}
+use Rattle.text.proofs.Answers.{stopped, went}
+use Rattle.text.proofs.cursor.Cursor.labelled.Statement.{statement}
+use Rattle.text.proofs.cursor.Cursor.labelled.Tie as tie
+
+slice-aggregate-count-line : tie.Need-slice-aggregate-count-line
+slice-aggregate-count-line c = search needs
+
+count-line-requires : tie.Need-count-line-requires
+count-line-requires c κs = search needs
+
+enum-known-first : tie.Need-enum-known-first
+enum-known-first c = search needs
+
+returns : tie.Need-returns
+unfolding labelledText
+returns c =
+    let a = c .before .before .before .before .before .before .args in
+    let x = c .before .count-line in
+    stopped first (labelledIn (now (a .labels)) (now (a .initial))) _ (now (a .text)) (x .result) _ (x .ensures) (c .match .keys2)
+
+slice-aggregate-count-line-2 : tie.Need-slice-aggregate-count-line-2
+slice-aggregate-count-line-2 c = search needs
+
+count-line-requires-2 : tie.Need-count-line-requires-2
+count-line-requires-2 c κs = search needs
+
+enum-known-second : tie.Need-enum-known-second
+enum-known-second c = search needs
+
+returns-2 : tie.Need-returns-2
+unfolding labelledText
+returns-2 c =
+    let a = c .before .before .before .before .before .before .before .before .before .before .before .args in
+    let s = now (a .text) in
+    let x = c .before .before .before .before .before .before .count-line in
+    let y = c .before .count-line2 in
+    let g = c .before .before .before .before .first .given in
+    stopped first (labelledIn (now (a .labels)) (now (a .initial))) _ s (y .result) _ (y .ensures) (c .match2 .keys2)
+    ∙ sym (went first _ s (x .result) _ (x .ensures) (g .1))
+
+rows-requires : tie.Need-rows-requires
+rows-requires c κs =
+    let a = c .before .before .before .before .before .before .before .before .before .before .before .before .before .before .before .args in
+    let s = now (a .text) in
+    let x = c .before .before .before .before .before .before .before .before .before .before .count-line in
+    let y = c .before .before .before .before .before .count-line2 in
+    let g = c .before .before .before .before .before .before .before .before .first .given in
+    let h = c .before .before .before .second .given in
+    let S = count-inverse keyStates 1 mostStates 1 .back (drop (a .self .at) s) _ _ (sym (x .ensures) ∙ ap (told first s) (g .1)) in
+    let A = count-inverse keyAtoms 0 mostAtoms 2 .back (drop (g .0 .1 .1 .0 .at) s) _ _ (sym (y .ensures) ∙ ap (told first s) (h .1)) in
+    let p = c .before .before .before .before .before .before .before .before .before .before .before .before .before .before .before .pre in
+    (omega (arith, mul-le-mul (S .1 .most) (A .1 .most), mul-comm (g .0 .0) (h .0 .0), p .0), omega (arith, S .1 .most, p .1))
+
+same-length : tie.Need-same-length
+same-length c = search needs
+
+same-length-2 : tie.Need-same-length-2
+same-length-2 c = search needs
+
+returns-3 : tie.Need-returns-3
+unfolding labelledText
+returns-3 c =
+    let a = c .before .before .before .before .before .before .before .before .before .before .before .before .before .before .before .before .before .before .before .before .args in
+    let s = now (a .text) in
+    let x = c .before .before .before .before .before .before .before .before .before .before .before .before .before .before .before .count-line in
+    let y = c .before .before .before .before .before .before .before .before .before .before .count-line2 in
+    let g = c .before .before .before .before .before .before .before .before .before .before .before .before .before .first .given in
+    c .before .before .before .before .rows .ensures ∙ sym (went first _ s (x .result) _ (x .ensures) (g .1) ∙ went first _ s (y .result) _ (y .ensures) (c .before .before .before .before .before .before .before .before .second .given .1))
+
+pub labelled-spec : {M : Type 1} → statement M
+labelled-spec =
+    tie.close
+    (tie.spec
+    slice-aggregate-count-line
+    count-line-requires
+    enum-known-first
+    returns
+    slice-aggregate-count-line-2
+    count-line-requires-2
+    enum-known-second
+    returns-2
+    rows-requires
+    same-length
+    same-length-2
+    returns-3)

@@ -1,0 +1,124 @@
+-- `lists` meets its contract. The transitions, the nodes and the end, each by the answer before it.
+use borrow.Author.Needs.{needs}
+use mathlib.Core.Path.{sym, _∙_}
+use denote.Ref.{now}
+use Rattle.text.specs.Form.{listsText}
+use Rattle.text.specs.Answers.{listedIn, listsIn}
+use Rattle.text.proofs.Steps.{end-done, end-broken}
+use Rattle.text.proofs.Answers.{stopped, went}
+use Rattle.text.proofs.cursor.Cursor.lists.Statement.{statement}
+use Rattle.text.proofs.cursor.Cursor.lists.Tie as tie
+
+slice-aggregate-listed : tie.Need-slice-aggregate-listed
+slice-aggregate-listed c = search needs
+
+slice-aggregate-listed-2 : tie.Need-slice-aggregate-listed-2
+slice-aggregate-listed-2 c = search needs
+
+listed-requires : tie.Need-listed-requires
+listed-requires c κs = search needs
+
+enum-known-first : tie.Need-enum-known-first
+enum-known-first c = search needs
+
+same-length : tie.Need-same-length
+same-length c = search needs
+
+returns : tie.Need-returns
+unfolding listsText
+returns c =
+    let a = c .before .before .before .before .before .before .before .before .before .before .args in
+    let x = c .before .before .before .listed in
+    let T = x .last .1 .1 .1 .1 .1 .1 .1 .0 in
+    λ l. stopped (listedIn 2 T) (listsIn l T (now (a .nodes))) _ (now (a .text)) (x .result) _ (x .ensures) (c .match .keys2)
+
+slice-aggregate-listed-3 : tie.Need-slice-aggregate-listed-3
+slice-aggregate-listed-3 c = search needs
+
+slice-aggregate-listed-4 : tie.Need-slice-aggregate-listed-4
+slice-aggregate-listed-4 c = search needs
+
+listed-requires-2 : tie.Need-listed-requires-2
+listed-requires-2 c κs = search needs
+
+enum-known-second : tie.Need-enum-known-second
+enum-known-second c = search needs
+
+same-length-2 : tie.Need-same-length-2
+same-length-2 c = search needs
+
+same-length-3 : tie.Need-same-length-3
+same-length-3 c = search needs
+
+returns-2 : tie.Need-returns-2
+unfolding listsText
+returns-2 c =
+    let s = now (c .before .before .before .before .before .before .before .before .before .before .before .before .before .before .before .before .before .before .before .args .text) in
+    let x = c .before .before .before .before .before .before .before .before .before .before .before .before .listed in
+    let T = x .last .1 .1 .1 .1 .1 .1 .1 .0 in
+    let y = c .before .before .before .listed2 in
+    let N = y .last .1 .1 .1 .1 .1 .1 .1 .0 in
+    let g = c .before .before .before .before .before .before .before .before .first .given in
+    λ l. stopped (listedIn 3 N) (listsIn l T N) _ s (y .result) _ (y .ensures) (c .match2 .keys2) ∙ sym (went (listedIn 2 T) _ s (x .result) _ (x .ensures) (g .1))
+
+same-length-4 : tie.Need-same-length-4
+same-length-4 c = search needs
+
+same-length-5 : tie.Need-same-length-5
+same-length-5 c = search needs
+
+returns-3 : tie.Need-returns-3
+unfolding listsText
+returns-3 c =
+    let s = now (c .before .before .before .before .before .before .before .before .before .before .before .before .before .before .before .before .before .before .before .before .before .before .args .text) in
+    let x = c .before .before .before .before .before .before .before .before .before .before .before .before .before .before .before .listed in
+    let T = x .last .1 .1 .1 .1 .1 .1 .1 .0 in
+    let y = c .before .before .before .before .before .before .listed2 in
+    let N = y .last .1 .1 .1 .1 .1 .1 .1 .0 in
+    let g = c .before .before .before .before .before .before .before .before .before .before .before .first .given in
+    let h = c .before .before .second .given in
+    λ l. sym (went (listedIn 2 T) _ s (x .result) _ (x .ensures) (g .1) ∙ went (listedIn 3 N) _ s (y .result) _ (y .ensures) (h .1)
+    ∙ end-broken _ s (h .0 .1 .1 .0 .at) (c .if1 .taken))
+
+same-length-6 : tie.Need-same-length-6
+same-length-6 c = search needs
+
+same-length-7 : tie.Need-same-length-7
+same-length-7 c = search needs
+
+returns-4 : tie.Need-returns-4
+unfolding listsText
+returns-4 c =
+    let s = now (c .before .before .before .before .before .before .before .before .before .before .before .before .before .before .before .before .before .before .before .before .before .before .args .text) in
+    let x = c .before .before .before .before .before .before .before .before .before .before .before .before .before .before .before .listed in
+    let T = x .last .1 .1 .1 .1 .1 .1 .1 .0 in
+    let y = c .before .before .before .before .before .before .listed2 in
+    let N = y .last .1 .1 .1 .1 .1 .1 .1 .0 in
+    let g = c .before .before .before .before .before .before .before .before .before .before .before .first .given in
+    let h = c .before .before .second .given in
+    λ l. sym (went (listedIn 2 T) _ s (x .result) _ (x .ensures) (g .1) ∙ went (listedIn 3 N) _ s (y .result) _ (y .ensures) (h .1)
+    ∙ end-done _ s (h .0 .1 .1 .0 .at) (c .if1 .left))
+
+pub lists-spec : {M : Type 1} → statement M
+lists-spec =
+    tie.close
+    (tie.spec
+    slice-aggregate-listed
+    slice-aggregate-listed-2
+    listed-requires
+    enum-known-first
+    same-length
+    returns
+    slice-aggregate-listed-3
+    slice-aggregate-listed-4
+    listed-requires-2
+    enum-known-second
+    same-length-2
+    same-length-3
+    returns-2
+    same-length-4
+    same-length-5
+    returns-3
+    same-length-6
+    same-length-7
+    returns-4)
