@@ -1,0 +1,135 @@
+//! An independent second program: it makes cases, knows their answers by brute force, and compares.
+#![forbid(unsafe_code)]
+
+mod answers;
+mod askings;
+mod breaks;
+mod frames;
+mod generate;
+mod graphs;
+mod judge;
+mod labelling;
+mod limits;
+mod misasked;
+mod model;
+mod models;
+mod paths;
+mod question;
+mod random;
+mod reader;
+mod refusals;
+mod selftest;
+mod spoiled;
+mod statistics;
+mod walks;
+
+use std::io::{Read, Write};
+use std::process::ExitCode;
+
+const USAGE: &str = "compare make COUNT SEED INPUT_FILE ANSWER_FILE [MODEL_FILE ..]
+    writes COUNT cases and their answers, the model files' cases before them
+compare explain INPUT_FILE N
+    prints case N (from 0) and its expected answer
+compare differ INPUT_FILE EXPECTED GOT
+    tells the first case whose answers differ
+compare answer
+    reads frames on standard input and writes the expected answers on standard output
+compare statistics COUNT SEED
+    tells what the cases of a seed contain
+compare selftest
+    runs the worked cases";
+
+fn main() -> ExitCode {
+    let words: Vec<String> = std::env::args().skip(1).collect();
+    let words: Vec<&str> = words.iter().map(String::as_str).collect();
+    let done = match words[..] {
+        ["make", count, seed, input, answers, ref models @ ..] => make(count, seed, input, answers, models),
+        ["explain", input, number] => explain(input, number),
+        ["differ", input, expected, got] => differ(input, expected, got),
+        ["answer"] => answer(),
+        ["statistics", count, seed] => tell_statistics(count, seed),
+        ["selftest"] => Ok(selftest::run()),
+        _ => Err(String::from(USAGE)),
+    };
+    done.unwrap_or_else(|message| {
+        eprintln!("{message}");
+        ExitCode::from(2)
+    })
+}
+
+fn number<T: std::str::FromStr>(word: &str) -> Result<T, String> {
+    word.parse().map_err(|_| format!("{word} is no number"))
+}
+
+fn load(file: &str) -> Result<Vec<u8>, String> {
+    std::fs::read(file).map_err(|error| format!("{file}: {error}"))
+}
+
+fn save(file: &str, bytes: &[u8]) -> Result<(), String> {
+    std::fs::write(file, bytes).map_err(|error| format!("{file}: {error}"))
+}
+
+fn make(count: &str, seed: &str, input: &str, answer_file: &str, models: &[&str]) -> Result<ExitCode, String> {
+    let (count, seed): (usize, u64) = (number(count)?, number(seed)?);
+    let mut cases = Vec::new();
+    for file in models {
+        let text = load(file)?;
+        if text.len() > reader::MOST_BYTES + 1 {
+            return Err(format!("{file}: a case holds at most {} bytes", reader::MOST_BYTES + 1));
+        }
+        cases.push(limits::model_case(text));
+    }
+    cases.extend((0..count).map(|place| generate::case(seed, place)));
+    save(input, &cases.iter().flat_map(|case| frames::frame(case)).collect::<Vec<u8>>())?;
+    save(answer_file, &ended_answers(cases.iter().map(Vec::as_slice)))?;
+    Ok(ExitCode::SUCCESS)
+}
+
+/// Each answer followed by a line with a single dot.
+fn ended_answers<'a>(cases: impl Iterator<Item = &'a [u8]>) -> Vec<u8> {
+    cases.flat_map(|case| (answers::answer(case) + ".\n").into_bytes()).collect()
+}
+
+/// Printed as far as the reader wants it; a closed pipe is no error.
+fn show(text: &str) {
+    let _ = std::io::stdout().write_all(text.as_bytes());
+}
+
+fn explain(input: &str, place: &str) -> Result<ExitCode, String> {
+    let (input, place): (Vec<u8>, usize) = (load(input)?, number(place)?);
+    let cases = frames::cases(&input)?;
+    let case = cases.get(place).ok_or(format!("there are {} cases", cases.len()))?;
+    let text = frames::readable(case, usize::MAX);
+    show(&format!("case {place}, {} bytes:\n{text}expected:\n{}", case.len(), answers::answer(case)));
+    Ok(ExitCode::SUCCESS)
+}
+
+fn differ(input: &str, expected: &str, got: &str) -> Result<ExitCode, String> {
+    let (input, expected, got) = (load(input)?, load(expected)?, load(got)?);
+    let cases = frames::cases(&input)?;
+    let (expected, got) = (frames::answers(&expected), frames::answers(&got));
+    if expected.len() != cases.len() {
+        return Err(format!("{} cases, but {} expected answers", cases.len(), expected.len()));
+    }
+    let places = frames::differing(cases.len(), &expected, &got);
+    if let Some(&first) = places.first() {
+        let text =
+            |found: &[&[u8]]| found.get(first).map_or(String::from("(nothing)\n"), |t| frames::readable(t, 4_000));
+        show(&format!("case {first}:\n{}expected:\n{}got:\n{}", text(&cases), text(&expected), text(&got)));
+    }
+    show(&format!("{} cases, {} differences\n", cases.len(), places.len()));
+    Ok(ExitCode::from(!places.is_empty() as u8))
+}
+
+fn answer() -> Result<ExitCode, String> {
+    let mut input = Vec::new();
+    std::io::stdin().read_to_end(&mut input).map_err(|error| error.to_string())?;
+    let answers = ended_answers(frames::cases(&input)?.into_iter());
+    std::io::stdout().write_all(&answers).map_err(|error| error.to_string())?;
+    Ok(ExitCode::SUCCESS)
+}
+
+fn tell_statistics(count: &str, seed: &str) -> Result<ExitCode, String> {
+    statistics::print(number(count)?, number(seed)?);
+    Ok(ExitCode::SUCCESS)
+}
