@@ -1,5 +1,5 @@
 -- What judging may lean on once nothing is refused, and what it answers at each of its returns.
-use mathlib.Core.Path.{_≡_, sym, ap, _∙_, subst}
+use mathlib.Core.Path.{_≡_, sym, ap, ap₂, _∙_, subst}
 use Prim.Native.Nat.{ℕ, _*_, _≤_, _<_}
 use mathlib.Core.List.{List, []}
 use mathlib.Core.Bool.{false, not}
@@ -7,26 +7,30 @@ use native.Mathlib.Omega.{arith}
 use lib.ListN.{length, getD, take, drop}
 use lib.Seq.{drop-at}
 use lib.Dec.{eqb, ltb}
-use borrow.Author.Tests.{ne-eqb, ltb-true, ltb-false, eqb-true, not-false}
+use borrow.Author.Tests.{lt-ltb, ne-eqb, ltb-true, ltb-false, eqb-true, not-false}
 use Rattle.ctl.specs.Answers.{Judging, judgedAs, modelOf}
-use Rattle.ctl.specs.Inside.{AtomFits, Judgeable, NodesFit}
-use Rattle.ctl.specs.Nodes.{Kind, bound, kindOf, leftUse, rightUse}
+use Rattle.ctl.specs.Inside.{AtomFits, Judgeable, NodesFit, operandRow, rowBytes}
+use Rattle.ctl.specs.Nodes.{Kind, bound, kindOf, leftUse, nodeRow, nodeValue, rightUse}
 use Rattle.ctl.specs.Refusals.{badInitial, badNodes, badOperand, judgeRefusal, kindAt, leftAt, rightAt}
 use Rattle.ctl.specs.Rows.{modelVerdict, nodeCount, rowsOf, spaceWith, storedRows}
 use Rattle.kripke.specs.Answers.{transitionsRead, verdict}
-use Rattle.kripke.specs.Limits.{greatestKind, mostAtoms}
+use Rattle.kripke.specs.Limits.{greatestKind, mostAtoms, mostStates}
 use Rattle.kripke.specs.Refusals.{badCount, badList, falls, leaves, tableRefusal}
-use Rattle.kripke.specs.Rows.{rowBegin, rowSize, someAbove, valueAt}
+use Rattle.kripke.specs.Rows.{badRow, rowBegin, rowSize, rowValues, someAbove, valueAt}
 use Rattle.kripke.specs.Transitions.{count, succs}
+use Rattle.kripke.specs.Until.{until}
 use Rattle.kripke.specs.Values.{top}
 use Rattle.lists.specs.Entries.{All, anyBelow, at, isNil}
 use Rattle.ctl.proofs.FineRows.{rows-fine}
 use Rattle.ctl.proofs.Lowest.{nodes-size}
-use Rattle.ctl.proofs.NodeLists.{rows-count, rows-whole}
-use Rattle.ctl.proofs.Spaces.{RowFine, stored-length, value-in-space}
+use Rattle.ctl.proofs.NodeLists.{row-of-node, rows-count, rows-whole}
+use Rattle.ctl.proofs.Scan.{left}
+use Rattle.ctl.proofs.Spaces.{RowFine, operand-in-space, rows-fit, stored-length, value-in-space}
 use Rattle.kripke.proofs.Read.{begun}
+use Rattle.kripke.proofs.Refusals.{accepted}
 use Rattle.kripke.proofs.StoredRows.{none-above}
 use Rattle.lists.proofs.Causes.{none-refused, passed, skipped}
+use Rattle.lists.proofs.Rows.{tab-at}
 use Rattle.lists.proofs.Search.{any-none}
 use Rattle.lists.proofs.Tests.{or-neither}
 use Rattle.kripke.specs.declared.graph.Transitions.{Transitions}
@@ -41,6 +45,7 @@ pub record Judged-fine (S A : ℕ) (labels initial es ns : List ℕ) (room : ℕ
   pub initials : length initial ≡ S
   pub some : 0 < nodeCount ns
   pub nodes : NodesFit A ns
+  pub operands : (i : ℕ) → i < nodeCount ns → badOperand A ns i ≡ false
   pub space : rowBegin S (nodeCount ns) ≤ room
 
 -- a node whose numbers lie below their bounds names an atom of the model if it names one
@@ -77,6 +82,7 @@ judge-fine S A labels initial es ns room e =
       initials = same-length S initial (p5 .0);
       some = size .0;
       nodes = record { triples = size .2; atoms = λ i h. atom-fits A ns i (any-none (badOperand A ns) (nodeCount ns) (p12 .0) i h) };
+      operands = any-none (badOperand A ns) (nodeCount ns) (p12 .0);
       space = ltb-false room (rowBegin S (nodeCount ns)) (p13 .0);
     }
 
@@ -125,3 +131,38 @@ module _ (S A : ℕ) (labels initial es ns before : List ℕ) (z : judgeRefusal 
   held-beyond =
       let n : length (storedRows rows) ≡ rowBegin S (nodeCount ns) = stored-length S rows all-fine ∙ ap (rowBegin S) as-many in
       ap (drop (rowBegin S (nodeCount ns))) e ∙ drop-at (storedRows rows) (drop (length (storedRows rows)) before) (rowBegin S (nodeCount ns)) n ∙ ap (λ (k : ℕ). drop k before) n
+
+  -- an operand's row in the space: it is a row, and its values are those of its node
+  pub operand-row-held : (k : ℕ) → k < nodeCount ns → (badRow S (take (rowSize S) (drop (rowBegin S k) after)) ≡ false) × (rowValues S (take (rowSize S) (drop (rowBegin S k) after)) ≡ getD rows k [])
+  unfolding rowBytes operandRow
+  operand-row-held k h =
+      let few : S ≤ mostStates = accepted S es (judge-fine S A labels initial es ns (length before) z .table) .few in
+      let fit = rows-fit S rows all-fine before room few in
+      let same = operand-in-space S rows all-fine before room k in
+      (subst (λ (v : List ℕ). badRow S (take (rowSize S) (drop (rowBegin S k) v)) ≡ false) (sym e) (fit .stand k (rw as-many h)), subst (λ (v : List ℕ). rowValues S (take (rowSize S) (drop (rowBegin S k) v)) ≡ getD rows k []) (sym e) (rw (lt-ltb k (length rows) (rw as-many h)) at same))
+
+  -- the numbers of an exists-until are earlier nodes
+  until-operands : (k : ℕ) → k < nodeCount ns → kindAt ns k ≡ 5 → (leftAt ns k < k) × (rightAt ns k < k)
+  unfolding kindOf
+  until-operands k h five =
+      let fine = judge-fine S A labels initial es ns (length before) z .operands k h in
+      let p = or-neither (not (ltb (leftAt ns k) (bound (leftUse (kindOf (kindAt ns k))) A k))) (not (ltb (rightAt ns k) (bound (rightUse (kindOf (kindAt ns k))) A k))) fine in
+      (subst (λ (n : ℕ). leftAt ns k < bound (leftUse (kindOf n)) A k) five (ltb-true _ _ (not-false _ (p .0))), subst (λ (n : ℕ). rightAt ns k < bound (rightUse (kindOf n)) A k) five (ltb-true _ _ (not-false _ (p .1))))
+
+  -- what the space holds for an exists-until is E over the rows that it holds for its two parts
+  pub until-held : (k s : ℕ) → k < nodeCount ns → s < S → kindAt ns k ≡ 5 → (leftAt ns k < k) × (rightAt ns k < k) × (valueAt (take (rowSize S) (drop (rowBegin S k) after)) s ≡ until false es (rowValues S (take (rowSize S) (drop (rowBegin S (leftAt ns k)) after))) (rowValues S (take (rowSize S) (drop (rowBegin S (rightAt ns k)) after))) S s)
+  unfolding kindOf nodeRow nodeValue
+  until-held k s h l five =
+      let a = until-operands k h five in
+      let f = judge-fine S A labels initial es ns (length before) z in
+      let row = row-of-node (modelOf S A labels es) ns (f .nodes .triples) k h (a .0) (a .1) in
+      let left = operand-row-held (leftAt ns k) (omega arith) .1 in
+      let right = operand-row-held (rightAt ns k) (omega arith) .1 in (
+        a .0,
+        a .1,
+        held-value k s h l
+            ∙ ap (λ (r : List ℕ). at r s) row
+            ∙ tab-at (nodeValue (modelOf S A labels es) (kindOf (kindAt ns k)) (leftAt ns k) (getD rows (leftAt ns k) []) (getD rows (rightAt ns k) [])) S s l
+            ∙ ap (λ (n : ℕ). nodeValue (modelOf S A labels es) (kindOf n) (leftAt ns k) (getD rows (leftAt ns k) []) (getD rows (rightAt ns k) []) s) five
+            ∙ ap₂ (λ (L R : List ℕ). until false es L R S s) (sym left) (sym right),
+      )

@@ -1,10 +1,10 @@
 -- The rows of a node list, one node after the other.
-use mathlib.Core.Path.{_≡_, refl, ap, _∙_}
-use Prim.Native.Nat.{ℕ, zero, suc, _+_, _*_, _%_, _≤_, _<_}
+use mathlib.Core.Path.{_≡_, refl, sym, ap, ap₂, _∙_}
+use Prim.Native.Nat.{ℕ, zero, suc, _+_, _*_, _-_, _%_, _≤_, _<_}
 use mathlib.Core.List.{List, [], _∷_, _++_}
 use native.Mathlib.Omega.{arith}
-use lib.ListN.{length, getD, take, drop, length-append}
-use lib.Seq.{drop-cons, length-take-le, take-length, take-add}
+use lib.ListN.{length, getD, take, drop, length-append, List·getD-append}
+use lib.Seq.{drop-cons, getD-at, length-take-le, take-length, take-add}
 use Rattle.ctl.specs.Nodes.{Model, kindOf, nodeRow}
 use Rattle.ctl.specs.Refusals.{kindAt, leftAt, rightAt}
 use Rattle.ctl.specs.Rows.{nodeCount, rowsFrom, rowsOf}
@@ -67,3 +67,28 @@ module _ (m : Model) (ns : List ℕ) where
 
   pub rows-whole : length ns % 3 ≡ 0 → firstRows (nodeCount ns) ≡ rowsOf m ns
   rows-whole h = let e : 3 * nodeCount ns ≡ length ns = omega arith in ap (rowsOf m) (ap (λ (k : ℕ). take k ns) e ∙ take-length ns)
+
+  -- a row once made stays, whatever nodes follow
+  pub rows-stay : (d i j : ℕ) → i + d ≤ nodeCount ns → j < i → getD (firstRows (i + d)) j [] ≡ getD (firstRows i) j []
+  rows-stay zero i j h l = let e : i + 0 ≡ i = omega arith in ap (λ (n : ℕ). getD (firstRows n) j []) e
+  rows-stay (suc d) i j h l =
+      let e : i + suc d ≡ i + d + 1 = omega arith in
+      let row : List ℕ = rowMore m (firstRows (i + d)) (kindAt ns (i + d)) (leftAt ns (i + d)) (rightAt ns (i + d)) in
+      ap (λ (n : ℕ). getD (firstRows n) j []) e ∙ ap (λ (rs : List (List ℕ)). getD rs j []) (rows-next (i + d) (omega arith))
+      ∙ List·getD-append (firstRows (i + d)) (row ∷ []) [] j (omega (arith, rows-count (i + d) (omega arith)))
+      ∙ rows-stay d i j (omega arith) l
+
+  -- so the row of node k is made from the rows of its operands, which come before it
+  pub row-of-node : length ns % 3 ≡ 0 → (k : ℕ) → k < nodeCount ns → leftAt ns k < k → rightAt ns k < k → getD (rowsOf m ns) k [] ≡ nodeRow m (kindOf (kindAt ns k)) (leftAt ns k) (getD (rowsOf m ns) (leftAt ns k) []) (getD (rowsOf m ns) (rightAt ns k) [])
+  unfolding rowMore
+  row-of-node triples k h a b =
+      let n : ℕ = nodeCount ns in
+      let rest : k + 1 + (n - (k + 1)) ≡ n = omega arith in
+      let rest′ : k + (n - k) ≡ n = omega arith in
+      let here : (j : ℕ) → j < k → getD (rowsOf m ns) j [] ≡ getD (firstRows k) j [] = λ j l. ap (λ (rs : List (List ℕ)). getD rs j []) (sym (rows-whole triples)) ∙ ap (λ (i : ℕ). getD (firstRows i) j []) (sym rest′) ∙ rows-stay (n - k) k j (omega arith) l in
+      ap (λ (rs : List (List ℕ)). getD rs k []) (sym (rows-whole triples))
+      ∙ ap (λ (i : ℕ). getD (firstRows i) k []) (sym rest)
+      ∙ rows-stay (n - (k + 1)) (k + 1) k (omega arith) (omega arith)
+      ∙ ap (λ (rs : List (List ℕ)). getD rs k []) (rows-next k h)
+      ∙ getD-at (firstRows k) (rowMore m (firstRows k) (kindAt ns k) (leftAt ns k) (rightAt ns k)) [] [] k (rows-count k (omega arith))
+      ∙ ap₂ (nodeRow m (kindOf (kindAt ns k)) (leftAt ns k)) (sym (here (leftAt ns k) a)) (sym (here (rightAt ns k) b))

@@ -1,0 +1,6 @@
+pub mod Questions
+pub mod Order
+pub mod Refusals
+pub mod Answers
+pub mod Runs
+pub mod Inside
