@@ -1,0 +1,4 @@
+pub mod Placed
+pub mod Digits
+pub mod Promises
+pub mod Sizes

@@ -1,0 +1,42 @@
+-- How long each line is, and the letters of a stored row.
+use Prim.Native.Nat.{ℕ, _+_, _≤_, _<_}
+use mathlib.Core.Path.{_≡_, ap, sym, _∙_}
+use mathlib.Core.List.{List, [], _∷_, _++_, map}
+use mathlib.Core.Bool.{Bool, true, false, not, _&&_}
+use native.Mathlib.Omega.{arith}
+use lib.ListN.{length, length-append, length-map}
+use lib.Dec.{leb}
+use Rattle.lists.specs.Entries.{at}
+use Rattle.lists.specs.Rows.{tab}
+use Rattle.lists.proofs.Rows.{length-tab, tab-map, tab-same}
+use Rattle.kripke.specs.Limits.{mostStates}
+use Rattle.kripke.specs.Rows.{badRow, rowValues, valueAt}
+use Rattle.kripke.specs.Answers.{rowRead}
+use Rattle.kripke.specs.declared.rows.Row.{Row}
+use Rattle.kripke.proofs.StoredRows.{RowTaken}
+use Rattle.answer.specs.Lines.{lineFeed, letterOf, decimal, answerLine, rowLine, modelLine}
+
+pub answer-size : (n : ℕ) → length (answerLine n) ≡ length (decimal n) + 8
+unfolding answerLine
+answer-size n = omega (arith, length-append (decimal n) (lineFeed ∷ []))
+
+pub row-size : (S : ℕ) (stored : List ℕ) → length (rowLine (rowValues S stored)) ≡ S + 5
+unfolding rowLine rowValues
+row-size S stored =
+    let values = tab (valueAt stored) S in
+    omega (arith, length-append (map letterOf values) (lineFeed ∷ []), length-map values letterOf, length-tab (valueAt stored) S)
+
+pub model-size : (v : ℕ) → length (modelLine v) ≡ 8
+unfolding modelLine
+model-size v = omega arith
+
+-- the letters of the values that were read are those of the row
+pub row-letters : (S : ℕ) (stored values : List ℕ) → RowTaken S stored values → tab (λ (i : ℕ). letterOf (at values i)) S ≡ map letterOf (rowValues S stored)
+unfolding rowValues
+row-letters S stored values t =
+    tab-same (λ (i : ℕ). letterOf (at values i)) (λ (i : ℕ). letterOf (valueAt stored i)) S (λ s h. ap letterOf (t .here s h)) ∙ tab-map letterOf (valueAt stored) S
+
+-- whether a row was read is whether it has a line
+pub row-valid : (S : ℕ) (stored : List ℕ) (r : Row) (b : Bool) → r ≡ rowRead S stored → r .valid ≡ b → (leb S mostStates && not (badRow S stored)) ≡ b
+unfolding rowRead
+row-valid S stored r b e v = ap (λ (x : Row). x .valid) (sym e) ∙ v

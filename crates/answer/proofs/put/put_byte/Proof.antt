@@ -1,0 +1,20 @@
+-- `put_byte` meets its contract: one store.
+use Rattle.answer.proofs.Placed.{put-one}
+use borrow.Author.Needs.{needs}
+use Rattle.answer.proofs.put.put_byte.Statement.{statement}
+use Rattle.answer.proofs.put.put_byte.Tie as tie
+
+slice-write-buffer : tie.Need-slice-write-buffer
+slice-write-buffer c = search needs
+
+add-result : tie.Need-add-result
+add-result c = search needs
+
+same-length : tie.Need-same-length
+same-length c = search needs
+
+returns : tie.Need-returns
+returns c = put-one _ _ _ (search needs)
+
+pub put-byte-spec : {M : Type 1} → statement M
+put-byte-spec = tie.close (tie.spec slice-write-buffer add-result same-length returns)

@@ -1,0 +1,74 @@
+// The lines of an answer, each written to the front of a lent buffer.
+//
+//   put   bytes, letters and digits, one behind the other
+//
+// specs/Lines says what a line is, specs/Promise what each call promises.
+use kripke::rows::read_row;
+use kripke::values::Verdict;
+
+mod put;
+
+use put::decimal_size;
+use put::letter;
+use put::put_byte;
+use put::put_bytes;
+use put::put_decimal;
+use put::put_letters;
+ghost use Rattle.answer.specs.Promise.{numberDue, rowDue, modelDue, LineWritten};
+
+// What writing a line answers. Only `Bytes` changes the buffer.
+pub enum Written {
+    // So many bytes stand at the front of the buffer; the rest of it stays.
+    Bytes(usize),
+    // The buffer is too short for the line.
+    NoRoom,
+    // What was given is no row, or no verdict: it has no line.
+    NoLine,
+}
+
+// answer=N
+pub fn write_number(number: u8, buffer: &mut [u8]) -> Written
+    ensures { λ r. ⌜ LineWritten (numberDue number) (now (buffer .entry)) (now (buffer .exit)) r ⌝ }
+{
+    let size = decimal_size(number) + 8;
+    if buffer.len() < size {
+        return Written::NoRoom;
+    }
+    let a = put_bytes(b"answer=", buffer, 0);
+    let b = put_decimal(number, buffer, a);
+    let end = put_byte(b'\n', buffer, b);
+    Written::Bytes(end)
+}
+
+// row= and a letter a state
+pub fn write_row(states: usize, stored: &[u8], buffer: &mut [u8]) -> Written
+    ensures { λ r. ⌜ LineWritten (rowDue states (now (stored .entry))) (now (buffer .entry)) (now (buffer .exit)) r ⌝ }
+{
+    let row = read_row(states, stored);
+    if !row.valid {
+        return Written::NoLine;
+    }
+    if buffer.len() < states + 5 {
+        return Written::NoRoom;
+    }
+    let a = put_bytes(b"row=", buffer, 0);
+    let b = put_letters(states, &row.values, buffer, a);
+    let end = put_byte(b'\n', buffer, b);
+    Written::Bytes(end)
+}
+
+// model= and a letter
+pub fn write_model(verdict: Verdict, buffer: &mut [u8]) -> Written
+    ensures { λ r. ⌜ LineWritten (modelDue (verdict .0)) (now (buffer .entry)) (now (buffer .exit)) r ⌝ }
+{
+    if Verdict::TRUE.0 < verdict.0 {
+        return Written::NoLine;
+    }
+    if buffer.len() < 8 {
+        return Written::NoRoom;
+    }
+    let a = put_bytes(b"model=", buffer, 0);
+    let b = put_byte(letter(verdict.0), buffer, a);
+    let end = put_byte(b'\n', buffer, b);
+    Written::Bytes(end)
+}

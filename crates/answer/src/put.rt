@@ -1,0 +1,88 @@
+// Bytes put into a buffer from a place on. Each function says the place behind what it put.
+ghost use mathlib.Core.Path.{_≡_};
+ghost use mathlib.Core.List.{[], _∷_};
+ghost use Prim.Native.Nat.{ℕ, _+_, _<_, _≤_};
+ghost use lib.ListN.{length};
+ghost use Rattle.lists.specs.Entries.{at};
+ghost use Rattle.lists.specs.Rows.{tab};
+ghost use Rattle.kripke.specs.Values.{top};
+ghost use Rattle.answer.specs.Lines.{letterOf, decimal};
+ghost use Rattle.answer.specs.Inside.{Put};
+
+// The letter of a value.
+pub(crate) fn letter(value: u8) -> u8
+    requires { ⌜ value ≤ top ⌝ }
+    ensures { λ r. ⌜ r ≡ letterOf value ⌝ }
+{
+    if value == 0 {
+        return b'F';
+    }
+    if value == 1 {
+        return b'U';
+    }
+    b'T'
+}
+
+// How many digits a number has.
+pub(crate) fn decimal_size(number: u8) -> usize
+    ensures { λ r. ⌜ r ≡ length (decimal number) ⌝ }
+{
+    if number < 10 {
+        return 1;
+    }
+    if number < 100 {
+        return 2;
+    }
+    3
+}
+
+pub(crate) fn put_byte(byte: u8, buffer: &mut [u8], to: usize) -> usize
+    requires { ⌜ to < length (now buffer) ⌝ }
+    ensures { λ r. ⌜ Put (now (buffer .entry)) (now (buffer .exit)) to r (byte ∷ []) ⌝ }
+{
+    buffer[to] = byte;
+    to + 1
+}
+
+pub(crate) fn put_bytes(bytes: &[u8], buffer: &mut [u8], to: usize) -> usize
+    requires { ⌜ to + length (now bytes) ≤ length (now buffer) ⌝ }
+    ensures { λ r. ⌜ Put (now (buffer .entry)) (now (buffer .exit)) to r (now (bytes .entry)) ⌝ }
+{
+    let n = bytes.len();
+    let mut i: usize = 0;
+    while i < n {
+        buffer[to + i] = bytes[i];
+        i += 1;
+    }
+    to + n
+}
+
+// The letters of the first n values.
+pub(crate) fn put_letters(n: usize, values: &[u8], buffer: &mut [u8], to: usize) -> usize
+    requires { ⌜ (n ≤ length (now values)) × (to + n ≤ length (now buffer)) × ((i : ℕ) → i < n → at (now values) i ≤ top) ⌝ }
+    ensures { λ r. ⌜ Put (now (buffer .entry)) (now (buffer .exit)) to r (tab (λ (i : ℕ). letterOf (at (now (values .entry)) i)) n) ⌝ }
+{
+    let mut i: usize = 0;
+    while i < n {
+        buffer[to + i] = letter(values[i]);
+        i += 1;
+    }
+    to + n
+}
+
+// The digits of a number.
+pub(crate) fn put_decimal(number: u8, buffer: &mut [u8], to: usize) -> usize
+    requires { ⌜ to + length (decimal number) ≤ length (now buffer) ⌝ }
+    ensures { λ r. ⌜ Put (now (buffer .entry)) (now (buffer .exit)) to r (decimal number) ⌝ }
+{
+    if number < 10 {
+        return put_byte(b'0' + number, buffer, to);
+    }
+    if number < 100 {
+        let a = put_byte(b'0' + number / 10, buffer, to);
+        return put_byte(b'0' + number % 10, buffer, a);
+    }
+    let a = put_byte(b'0' + number / 100, buffer, to);
+    let b = put_byte(b'0' + number / 10 % 10, buffer, a);
+    put_byte(b'0' + number % 10, buffer, b)
+}

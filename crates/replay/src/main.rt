@@ -1,0 +1,116 @@
+// Framed cases on standard input, their answers on standard output, through the same calls as the other programs.
+// A frame is six digits, the length of its body, a line feed, and the body. The body's first line is a letter:
+//
+//   M   a model's text: the whole answer
+//   F   a path question with a start and a room: First, and then Next until the end
+//   N   a path question with a list: Next
+//   C   the same: Check
+//
+// Behind each answer stands a line with a dot.
+mod asking;
+mod numbers;
+mod telling;
+
+use kripke::limits::MOST_LABELS;
+use kripke::limits::MOST_NODE_NUMBERS;
+use kripke::limits::MOST_NODES;
+use kripke::limits::MOST_STATES;
+use kripke::limits::MOST_TRANSITION_NUMBERS;
+use kripke::limits::MOST_VERDICTS;
+use libc::STDIN_FILENO;
+use libc::STDOUT_FILENO;
+use sheet::Line;
+use sheet::Sheet;
+
+// The lines of an answer, one after the other.
+fn write_lines(sheet: Sheet, verdicts: &[u8]) {
+    let mut line = [0u8; MOST_STATES + 16];
+    let mut k: usize = 0;
+    while k < MOST_NODES + 2 {
+        match sheet::write_line(sheet, verdicts, k, &mut line) {
+            Line::Bytes(n) => {
+                if n <= MOST_STATES + 16 {
+                    io::write_all(STDOUT_FILENO, &line[..n]);
+                }
+            }
+            Line::End => return,
+            _ => {
+                io::write_all(STDOUT_FILENO, b"no line\n");
+            }
+        }
+        k += 1;
+    }
+}
+
+fn model(text: &[u8]) {
+    let mut labels = [0u8; MOST_LABELS];
+    let mut initial = [0u8; MOST_STATES];
+    let mut transitions = [0u16; MOST_TRANSITION_NUMBERS];
+    let mut nodes = [0u16; MOST_NODE_NUMBERS];
+    let mut verdicts = [0u8; MOST_VERDICTS];
+    let sheet = sheet::judge_text(
+        text,
+        &mut labels,
+        &mut initial,
+        &mut transitions,
+        &mut nodes,
+        &mut verdicts,
+    );
+    write_lines(sheet, &verdicts);
+}
+
+fn answer(body: &[u8]) {
+    if body.len() < 2 {
+        return;
+    }
+    let kind = body[0];
+    if kind == b'M' {
+        model(&body[2..]);
+    }
+    if kind == b'F' {
+        asking::first(body);
+    }
+    if kind == b'N' {
+        asking::next(body);
+    }
+    if kind == b'C' {
+        asking::check(body);
+    }
+    io::write_all(STDOUT_FILENO, b".\n");
+}
+
+fn read_and_answer(buffer: &mut [u8]) {
+    let got = io::read_full(STDIN_FILENO, buffer);
+    answer(&buffer[..got]);
+}
+
+// The frame's body, where the buffer is large enough for it.
+fn body(buffer: &mut [u8], n: usize) -> bool {
+    if buffer.len() < n {
+        return false;
+    }
+    read_and_answer(&mut buffer[..n]);
+    true
+}
+
+// One frame; false where there is none.
+fn turn() -> bool {
+    let mut head = [0u8; 7];
+    let got = io::read_full(STDIN_FILENO, &mut head);
+    if got != 7 {
+        return false;
+    }
+    let n = numbers::of_digits(&head);
+    let mut buffer = io::large_buffer();
+    body(&mut buffer, n)
+}
+
+fn main() {
+    let mut turns = u64::MAX;
+    while turns > 0 {
+        if !turn() {
+            return;
+        }
+        turns -= 1;
+    }
+}

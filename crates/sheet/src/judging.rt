@@ -1,0 +1,66 @@
+// The tables that were read, judged.
+use crate::Sheet;
+use ctl::Judged;
+use kripke::values::Verdict;
+ghost use mathlib.Core.Path.{_≡_};
+ghost use Rattle.text.specs.Promise.{tables};
+ghost use Rattle.sheet.specs.Judged.{refusedSheet, sheetOf, FrontsJudged};
+ghost use Rattle.sheet.specs.Inside.{FrontsFit};
+
+// The sheet of a refusal.
+pub(crate) fn refused(number: u8) -> Sheet
+    ensures { λ r. ⌜ r ≡ refusedSheet number ⌝ }
+{
+    Sheet {
+        number,
+        states: 0,
+        nodes: 0,
+        model: Verdict::FALSE,
+    }
+}
+
+// The sheet of what judging answered.
+fn sheet_of(states: usize, nodes: usize, answer: Judged) -> Sheet
+    ensures { λ r. ⌜ r ≡ sheetOf states nodes answer ⌝ }
+{
+    match answer {
+        Judged::Verdicts(model) => Sheet {
+            number: 0,
+            states,
+            nodes,
+            model,
+        },
+        Judged::Refused(number) => refused(number),
+    }
+}
+
+// Judges a model of s states, a atoms, e transitions and n nodes that stands in the fronts of the tables.
+pub(crate) fn judge_fronts(
+    s: usize,
+    a: usize,
+    e: usize,
+    n: usize,
+    labels: &[u8],
+    initial: &[u8],
+    transitions: &[u16],
+    nodes: &[u16],
+    verdicts: &mut [u8],
+) -> Sheet
+    requires { ⌜ FrontsFit s a e n (tables (now labels) (now initial) (now transitions) (now nodes)) ⌝ }
+    ensures { λ r. ⌜ FrontsJudged s a e n (tables (now (labels .entry)) (now (initial .entry)) (now (transitions .entry)) (now (nodes .entry)))
+        (now (verdicts .entry)) (now (verdicts .exit)) r ⌝ }
+{
+    let labels_end = s * a;
+    let transitions_end = 2 * e;
+    let nodes_end = 3 * n;
+    let answer = ctl::judge(
+        s,
+        a,
+        &labels[..labels_end],
+        &initial[..s],
+        &transitions[..transitions_end],
+        &nodes[..nodes_end],
+        verdicts,
+    );
+    sheet_of(s, n, answer)
+}
