@@ -28,8 +28,8 @@ decimal-short n =
     ⊎-elim
     (λ (h : n < 10). omega (arith, ap length (decimal-one n h)))
     (λ (h : 10 ≤ n).
-      ⊎-elim
-      (λ (k : n < 100). omega (arith, ap length (decimal-two n h k)))
-      (λ (k : 100 ≤ n). omega (arith, ap length (decimal-three n h k)))
-      (lt-or-le n 100))
+    ⊎-elim
+    (λ (k : n < 100). omega (arith, ap length (decimal-two n h k)))
+    (λ (k : 100 ≤ n). omega (arith, ap length (decimal-three n h k)))
+    (lt-or-le n 100))
     (lt-or-le n 10)

@@ -2,7 +2,7 @@
 use mathlib.Core.Path.{_≡_, refl, sym, ap, _∙_}
 use Prim.Native.Nat.{ℕ, zero, suc, _+_, _-_, _≤_, _<_}
 use mathlib.Core.List.{List, [], _∷_, _++_, append-nil}
-use mathlib.Core.Bool.{Bool, true, false, true≢false}
+use mathlib.Core.Bool.{true, false, true≢false}
 use mathlib.Core.Logic.{_⊎_, inl, inr, ⊎-elim}
 use native.Mathlib.Omega.{arith}
 use native.Mathlib.Numerals.{add-one}
@@ -11,7 +11,7 @@ use lib.ListN.{length, drop, take, length-drop, length-take, drop-of-length-le, 
 use lib.Seq.{getD-take, drop-at, length-take-le}
 use Rattle.lists.specs.Entries.{at}
 use Rattle.lists.proofs.Numbers.{lt-or-le}
-use Rattle.kripke.specs.Transitions.{Edge, Graph}
+use Rattle.kripke.specs.Transitions.{Graph}
 use Rattle.kripke.proofs.Successors.{edge-state}
 use Rattle.paths.specs.Inside.{Advanced, Below, Descended, Down, Greatest, Layers, Onto}
 use Rattle.paths.proofs.Fits.{Picked}
@@ -40,7 +40,7 @@ module _ (es : List ℕ) (d : ℕ → ℕ) where
   onto-from : (p r : List ℕ) (k : ℕ) → k < length p → k < length r → ((j : ℕ) → j ≤ k → at p j ≡ at r j) → Onto es d (at p k) (drop (k + 1) p) (drop (k + 1) r) → Onto es d (at p 0) (drop 1 p) (drop 1 r)
   onto-from p r zero a b same o = o
   onto-from p r (suc k) a b same o =
-      let o′ : Onto es d (at p (k + 1)) (drop (k + 1 + 1) p) (drop (k + 1 + 1) r) = rw add-one o in
+      let o′ : Onto es d (at p (k + 1)) (drop (k + 1 + 1) p) (drop (k + 1 + 1) r) = rw (add-one k) o in
       onto-from p r k (omega arith) (omega arith) (λ j h. same j (omega arith))
       (rw (at-drop p (k + 1) (omega arith), at-drop r (k + 1) (omega arith)) (inl (same (k + 1) (omega arith), o′)))
 

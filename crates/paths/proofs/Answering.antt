@@ -1,25 +1,22 @@
 -- From what the private functions found to the promises of First, Next and Check.
 use mathlib.Core.Path.{_≡_, refl, sym, ap, _∙_, subst}
 use Prim.Native.Nat.{ℕ, _+_, _≤_, _<_}
-use mathlib.Core.List.{List, [], _∷_, _++_}
-use mathlib.Core.Bool.{Bool, true, false, true≢false}
-use mathlib.Core.Logic.{_⊎_, inl, inr, ⊎-elim}
+use mathlib.Core.List.{List, _∷_, _++_}
 use native.Mathlib.Omega.{arith}
 use lib.ListN.{length, drop, take, length-append, length-drop}
 use lib.Seq.{take-at, drop-at}
 use Rattle.lists.specs.Entries.{at}
-use Rattle.lists.specs.Causes.{Applies, Given, Rising, refusalOf}
+use Rattle.lists.specs.Causes.{Given, Rising, refusalOf}
 use Rattle.lists.proofs.Causes.{given}
 use Rattle.kripke.specs.Walks.{Begins}
 use Rattle.paths.specs.declared.FirstAnswer.{FirstAnswer}
 use Rattle.paths.specs.declared.FirstAnswer.the-variants as first
 use Rattle.paths.specs.declared.NextAnswer.{NextAnswer}
 use Rattle.paths.specs.declared.NextAnswer.the-variants as next
-use Rattle.paths.specs.declared.CheckAnswer.{CheckAnswer}
 use Rattle.paths.specs.declared.CheckAnswer.the-variants as check
-use Rattle.paths.specs.Questions.{From, LeftHolds, Question, RightHolds, Shortest, Witness}
+use Rattle.paths.specs.Questions.{LeftHolds, Question, RightHolds, Shortest, Witness}
 use Rattle.paths.specs.Order.{Beyond, Least}
-use Rattle.paths.specs.Refusals.{Lowest, TooShort, causes, firstCauses}
+use Rattle.paths.specs.Refusals.{TooShort, causes, firstCauses}
 use Rattle.paths.specs.Answers.{CheckPromise, FirstPromise, NextPromise}
 use Rattle.paths.specs.Inside.{Down, Far, FirstFound, NextFound}
 use Rattle.paths.proofs.Advancing.{down-length}
@@ -112,10 +109,10 @@ module _ (q : Question) (path : List ℕ) (fine : refusalOf (causes q) ≡ 0) wh
       }
 
   pub next-path-promised : (after : List ℕ) → Shortest q (at path 0) path → Least (Beyond (Shortest q (at path 0)) path) after → NextPromise q path after next.Path
-  next-path-promised after s l = record { number = lowest-none (causes q) (causes-rise q) Wrong fine (λ k w. w .1 s); says = record { path = l } }
+  next-path-promised after s l = record { number = lowest-none (causes q) (causes-rise q) Wrong fine (λ k w. w .1 s); says = record { lent = s; path = l } }
 
   pub next-end-promised : Shortest q (at path 0) path → ((p : List ℕ) → Beyond (Shortest q (at path 0)) path p → ⊥) → NextPromise q path path next.End
-  next-end-promised s none = record { number = lowest-none (causes q) (causes-rise q) Wrong fine (λ k w. w .1 s); says = record { none = none; untouched = refl } }
+  next-end-promised s none = record { number = lowest-none (causes q) (causes-rise q) Wrong fine (λ k w. w .1 s); says = record { lent = s; none = none; untouched = refl } }
 
   module _ (d : List ℕ) (far : Far (q .transitions) (LeftHolds q) (RightHolds q) (q .states) (at path 0) d) (w : Witness q path) (some : 0 < length path) where
     pos : 0 < at d (at path 0)

@@ -1,21 +1,20 @@
 -- Entries at fault: the test at one entry, and that a list is a witness exactly if no entry is at fault.
 use mathlib.Core.Path.{_≡_, refl, sym, ap, _∙_, subst}
 use Prim.Native.Nat.{ℕ, zero, suc, _+_, _-_, _≤_, _<_}
-use mathlib.Core.List.{List, [], _∷_}
-use mathlib.Core.Bool.{Bool, true, false, cond, not, _&&_, _||_, true≢false}
-use mathlib.Core.Logic.{_⊎_, inl, inr, ⊎-elim}
+use mathlib.Core.List.{List}
+use mathlib.Core.Bool.{Bool, true, false, cond, not}
+use mathlib.Core.Logic.{_⊎_, ⊎-elim}
 use native.Mathlib.Omega.{arith}
-use native.Mathlib.Numerals.{add-one}
 use lib.ListN.{length, drop}
 use lib.Dec.{leb, ltb}
 use borrow.Author.Tests.{le-leb, lt-leb, leb-false, lt-ltb, le-ltb, ltb-false, not-false}
 use Rattle.lists.specs.Entries.{at, anyBelow}
 use Rattle.lists.proofs.Numbers.{lt-or-le}
 use Rattle.lists.proofs.Search.{any-none}
-use Rattle.lists.proofs.Tests.{and-fails, and-holds, or-fails, or-left, or-neither, or-none}
+use Rattle.lists.proofs.Tests.{and-fails, and-holds, or-fails, or-left, or-neither}
 use Rattle.kripke.specs.Transitions.{Edge, succs}
 use Rattle.paths.specs.Questions.{From, Reaches}
-use Rattle.paths.specs.declared.faults.Fault.the-variants.{At, Nowhere}
+use Rattle.paths.specs.declared.faults.Fault.the-variants.{Nowhere}
 use Rattle.paths.specs.Inside.{FaultFound, atFault, has, unjoined}
 use Rattle.paths.proofs.Places.{from-back, from-last, from-place, from-step, last-from}
 use Rattle.paths.proofs.Scans.{has-edge, no-edge}

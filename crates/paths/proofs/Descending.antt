@@ -1,14 +1,13 @@
 -- Down the distances by the smallest next state: one step, a list filled from the front, and the filled list.
-use mathlib.Core.Path.{_≡_, refl, sym, ap, _∙_}
+use mathlib.Core.Path.{_≡_, refl, ap, _∙_}
 use Prim.Native.Nat.{ℕ, zero, suc, _+_, _-_, _≤_, _<_}
-use mathlib.Core.List.{List, [], _∷_}
-use mathlib.Core.Logic.{_⊎_, inl, inr, ⊎-elim}
+use mathlib.Core.List.{List}
 use native.Mathlib.Omega.{arith}
 use borrow.Author.Count.{below-more}
 use lib.ListN.{length, set, drop, length-set, drop-of-length-le}
 use lib.Seq.{getD-set-same, getD-set-other}
 use Rattle.lists.specs.Entries.{at}
-use Rattle.kripke.specs.Transitions.{Edge, Graph}
+use Rattle.kripke.specs.Transitions.{Graph}
 use Rattle.kripke.proofs.Successors.{edge-state}
 use Rattle.paths.specs.Inside.{Below, Descended, Greedy, Layers}
 use Rattle.paths.proofs.Fits.{Picked}

@@ -1,15 +1,14 @@
 -- The first successor that fits is the smallest: the successors of a state ascend.
 use mathlib.Core.Path.{_≡_, refl, sym, ap, _∙_, subst}
-use Prim.Native.Nat.{ℕ, zero, suc, _+_, _≤_, _<_}
+use Prim.Native.Nat.{ℕ, _≤_, _<_}
 use mathlib.Core.List.{List, [], _∷_, List·Memᴰ, List·Memᴰ·head, List·Memᴰ·tail, List·Memᴰ·cases-cons, List·Memᴰ·not-nil}
 use mathlib.Core.Bool.{Bool, true, false, cond, _&&_, _||_, true≢false}
-use mathlib.Core.Logic.{_⊎_, inl, inr, ⊎-elim}
+use mathlib.Core.Logic.{_⊎_, inl, inr}
 use native.Mathlib.Omega.{arith}
-use lib.ListN.{length}
 use lib.Dec.{eqb, leb, ltb}
 use borrow.Author.Tests.{eqb-true, leb-true, le-leb, eq-eqb, ltb-true}
 use Rattle.lists.specs.Entries.{at, All}
-use Rattle.lists.proofs.Entries.{all-member, all-weaken}
+use Rattle.lists.proofs.Entries.{all-member}
 use Rattle.lists.proofs.Tests.{and-both, and-parts}
 use Rattle.kripke.specs.Transitions.{Ascending, Edge, Graph, succs}
 use Rattle.kripke.proofs.Begins.{ascending-tail}
@@ -93,9 +92,6 @@ module _ (S : ℕ) (d : List ℕ) (want above : ℕ) where
   fit-is [] h = absurd (omega arith)
   fit-is (x ∷ xs) h = go (leb above x && eqb (at d x) want) refl h (fit-is xs)
     where
-      later : ℕ
-      later = firstFit S d want above xs
-
       go : (b : Bool) → (leb above x && eqb (at d x) want) ≡ b → cond b x (firstFit S d want above xs) < S → (firstFit S d want above xs < S → List·Memᴰ (firstFit S d want above xs) xs × (at d (firstFit S d want above xs) ≡ want) × (above ≤ firstFit S d want above xs))
           → List·Memᴰ (cond b x (firstFit S d want above xs)) (x ∷ xs) × (at d (cond b x (firstFit S d want above xs)) ≡ want) × (above ≤ cond b x (firstFit S d want above xs))
       go true q l rest = let p = and-parts _ _ q in (List·Memᴰ·head refl, eqb-true (at d x) want (p .1), leb-true above x (p .0))

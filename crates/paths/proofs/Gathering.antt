@@ -1,14 +1,14 @@
 -- All shortest witnesses from a state, in ascending order: of the walks of the least length that has one, those with no entry at fault.
-use mathlib.Core.Path.{_≡_, refl, sym, ap, _∙_, subst}
+use mathlib.Core.Path.{_≡_, refl, sym, ap, subst}
 use Prim.Native.Nat.{ℕ, zero, suc, _≤_, _<_}
 use mathlib.Core.List.{List, [], _∷_}
-use mathlib.Core.Bool.{Bool, true, false, not, _||_}
+use mathlib.Core.Bool.{Bool, true, false, not}
 use mathlib.Core.Logic.{_⊎_, inl, inr, ⊎-elim}
 use native.Mathlib.Omega.{arith}
 use native.Mathlib.Nat.{eq-or-lt-of-le}
-use lib.ListN.{length, drop}
+use lib.ListN.{length}
 use borrow.Author.Tests.{not-true}
-use Rattle.lists.specs.Entries.{anyBelow, at}
+use Rattle.lists.specs.Entries.{anyBelow}
 use Rattle.lists.proofs.Tests.{or-none}
 use Rattle.kripke.specs.Rows.{valueAt}
 use Rattle.kripke.specs.Transitions.{Graph}

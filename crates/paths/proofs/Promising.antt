@@ -1,11 +1,11 @@
 -- The public calls: what was read of the tables, the tests of 15, and what was found on the values give the promise on the stored rows.
-use mathlib.Core.Path.{_≡_, refl, sym, ap, _∙_, subst}
-use Prim.Native.Nat.{ℕ, _≤_, _<_}
+use mathlib.Core.Path.{_≡_, sym, _∙_, subst}
+use Prim.Native.Nat.{ℕ}
 use mathlib.Core.List.{List, [], _∷_}
 use mathlib.Core.Bool.{true, false, _||_, true≢false}
-use mathlib.Core.Logic.{_⊎_, inl, inr, ⊎-elim}
+use mathlib.Core.Logic.{inl, inr}
 use native.Mathlib.Omega.{arith}
-use lib.ListN.{length, drop}
+use lib.ListN.{drop}
 use lib.Dec.{leb}
 use Rattle.lists.specs.Entries.{at}
 use Rattle.lists.specs.Causes.{refusalOf}
@@ -17,10 +17,10 @@ use Rattle.paths.specs.declared.NextAnswer.the-variants as next
 use Rattle.paths.specs.declared.CheckAnswer.the-variants as check
 use Rattle.paths.specs.declared.tables.Tables.{Tables}
 use Rattle.paths.specs.declared.faults.Fault.the-variants.{At, Nowhere}
-use Rattle.paths.specs.Questions.{From, LeftHolds, Question, Reaches, RightHolds, Shortest, Witness, asked}
+use Rattle.paths.specs.Questions.{From, LeftHolds, Question, Reaches, RightHolds, Witness, asked}
 use Rattle.paths.specs.Refusals.{badLevel, causes, firstCauses}
 use Rattle.paths.specs.Answers.{CheckPromise, FirstPromise, NextPromise}
-use Rattle.paths.specs.Inside.{Far, FaultFound, FirstWorked, Measured, NextBroken, NextTold, NextWorked, TablesRead, Taken}
+use Rattle.paths.specs.Inside.{Far, FaultFound, FirstWorked, Measured, NextWorked, TablesRead, Taken}
 use Rattle.paths.proofs.Answering.{check-no, check-refused, check-yes, first-found, first-refused, next-found, next-refused, next-wrong}
 use Rattle.paths.proofs.Breaks.{faultless, no-fault}
 use Rattle.paths.proofs.Places.{from-map, whole}
@@ -78,9 +78,6 @@ module _ (S : ℕ) (es left right : List ℕ) (level : ℕ) (t : Tables) (r : Ta
     broken [] i f w = w
     broken (x ∷ p) i (inl e) w = omega (arith, e .0)
     broken (x ∷ p) i (inr f) w = true≢false (sym (f .1) ∙ no-fault S es (at (t .left)) (at (t .right)) level (x ∷ p) (witness-values (x ∷ p) w) i (f .0))
-
-    shortest-witness : (s : ℕ) (p : List ℕ) → Shortest q s p → Witness q p
-    shortest-witness s p h = h .witness
 
     -- the level is one
     module _ (fits : badLevel level ≡ false) where

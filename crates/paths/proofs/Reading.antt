@@ -1,15 +1,15 @@
 -- What `read_tables` answers: the lowest of 1, 6 to 9 and 14, and otherwise what the tables hold; the causes of a question in their parts.
-use mathlib.Core.Path.{_≡_, refl, sym, ap, _∙_, subst}
-use Prim.Native.Nat.{ℕ, suc, _≤_, _<_}
+use mathlib.Core.Path.{_≡_, refl, sym, ap, _∙_}
+use Prim.Native.Nat.{ℕ, _<_}
 use mathlib.Core.List.{List, [], _∷_, _++_}
 use mathlib.Core.Bool.{Bool, true, false, cond, _&&_, _||_}
-use mathlib.Core.Logic.{_⊎_, inl, inr, ⊎-elim}
+use mathlib.Core.Logic.{_⊎_, inl, inr}
 use native.Mathlib.Omega.{arith}
 use native.Mathlib.Nat.{eq-zero-or-pos}
-use lib.Dec.{eqb, leb}
+use lib.Dec.{eqb}
 use borrow.Author.Tests.{ne-eqb}
-use Rattle.lists.specs.Causes.{Cause, cause, refusalOf, Rising}
-use Rattle.lists.proofs.Causes.{none-refused, passed, refusal-append, refused, skipped}
+use Rattle.lists.specs.Causes.{cause, refusalOf, Rising}
+use Rattle.lists.proofs.Causes.{none-refused, refusal-append, refused, skipped}
 use Rattle.lists.proofs.Tests.{or-left, or-none, or-right}
 use Rattle.kripke.specs.Answers.{rowRead, transitionsRead}
 use Rattle.kripke.specs.Refusals.{tableCauses, tableRefusal}

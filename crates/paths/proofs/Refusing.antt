@@ -1,12 +1,11 @@
 -- The number that is given: the first that applies is the lowest, also where 16 or 17 stands behind the table, and no two are.
-use mathlib.Core.Path.{_≡_, refl, sym, ap, _∙_, subst}
-use Prim.Native.Nat.{ℕ, suc, _≤_, _<_}
+use mathlib.Core.Path.{_≡_, refl, sym, _∙_, subst}
+use Prim.Native.Nat.{ℕ, _≤_, _<_}
 use mathlib.Core.List.{List, [], _∷_, _++_}
-use mathlib.Core.Bool.{Bool, true, false, cond, _||_}
+use mathlib.Core.Bool.{Bool, true, false}
 use mathlib.Core.Logic.{_⊎_, inl, inr, ⊎-elim}
 use native.Mathlib.Omega.{arith}
 use native.Mathlib.Nat.{eq-zero-or-pos, le-antisymm}
-use lib.Dec.{eqb}
 use borrow.Author.Tests.{ne-eqb}
 use Rattle.lists.specs.Entries.{All}
 use Rattle.lists.specs.Causes.{Applies, Cause, Given, Rising, cause, refusalOf}
@@ -51,11 +50,11 @@ module _ (cs : List Cause) (rises : Rising 0 cs) (Late : ℕ → Type 0) where
       let g : Given cs 0 = subst (Given cs) z (given 0 cs rises) in
       record { applies = λ h. absurd (h refl); lowest = λ k p. ⊎-elim (λ a. g .lowest k a) (λ l. absurd (late k l)) p }
 
-  -- what a number says of the table
-  pub none-before : Lowest (λ (k : ℕ). Applies cs k ⊎ Late k) 0 → refusalOf cs ≡ 0
-  none-before l =
-      let g : Given cs (refusalOf cs) = given 0 cs rises in
-      ⊎-elim (λ (z : refusalOf cs ≡ 0). z) (λ (p : 0 < refusalOf cs). absurd (omega (arith, l .lowest (refusalOf cs) (inl (g .applies (λ z. omega arith))) .0))) (eq-zero-or-pos (refusalOf cs))
+  -- a number that the table does not give is given for the cause behind it
+  pub only-late : (n : ℕ) → refusalOf cs ≡ 0 → 0 < n → Lowest (λ (k : ℕ). Applies cs k ⊎ Late k) n → Late n
+  only-late n z pos l =
+      let g : Given cs 0 = subst (Given cs) z (given 0 cs rises) in
+      ⊎-elim (λ a. absurd (omega (arith, g .lowest n a .0))) (λ h. h) (l .applies (λ e. omega arith))
 
 -- no two numbers are given
 pub lowest-one : {P : ℕ → Type 0} {n m : ℕ} → Lowest P n → Lowest P m → n ≡ m

@@ -1,33 +1,24 @@
 -- S entries are enough: a witness exists exactly if one of at most S entries does, a shortest one has at most S, and with S entries of space 16 is never given.
-use mathlib.Core.Path.{_≡_, refl, sym}
-use Prim.Native.Nat.{ℕ, suc, _≤_, _<_}
+use Prim.Native.Nat.{ℕ, _≤_}
 use mathlib.Core.List.{List, [], _∷_}
-use mathlib.Core.Logic.{_⊎_, inl, inr, ⊎-elim, _↔_}
+use mathlib.Core.Logic.{_⊎_, ⊎-elim, _↔_}
 use native.Mathlib.Omega.{arith}
 use lib.ListN.{length}
 use Rattle.kripke.specs.Walks.{Begins}
 use Rattle.paths.specs.declared.FirstAnswer.the-variants as first
-use Rattle.paths.specs.Questions.{LeftHolds, Question, RightHolds, Shortest, Witness}
+use Rattle.paths.specs.Questions.{LeftHolds, Question, RightHolds, Shortest, Witness, Witnessed, WitnessedWithin}
 use Rattle.paths.specs.Refusals.{firstCauses}
 use Rattle.paths.specs.Answers.{FirstPromise}
 use Rattle.paths.proofs.Refusing.{applies-below}
 use Rattle.paths.proofs.Simple.{shorten}
 
--- a witness from s
-abbrev pub Some : Question → ℕ → Type 0
-Some q s = (p : List ℕ) × Begins s p × Witness q p
-
--- a witness from s of at most n entries
-abbrev pub SomeWithin : Question → ℕ → ℕ → Type 0
-SomeWithin q s n = (p : List ℕ) × Begins s p × Witness q p × (length p ≤ n)
-
-shorter : (q : Question) (s : ℕ) (p : List ℕ) → Begins s p → Witness q p → SomeWithin q s (q .states)
+shorter : (q : Question) (s : ℕ) (p : List ℕ) → Begins s p → Witness q p → WitnessedWithin q s (q .states)
 shorter q s [] b w = absurd b
 shorter q s (t ∷ p) b w =
     let x = shorten (q .transitions) (LeftHolds q) (RightHolds q) (q .states) (λ s h. h .0) (λ s h. h .0) t p w in
     (t ∷ x .0, b, x .1, x .2)
 
-pub few-enough : (q : Question) (s : ℕ) → Some q s ↔ SomeWithin q s (q .states)
+pub few-enough : (q : Question) (s : ℕ) → Witnessed q s ↔ WitnessedWithin q s (q .states)
 few-enough q s = (λ x. shorter q s (x .0) (x .1) (x .2), λ x. (x .0, x .1, x .2))
 
 pub shortest-few : (q : Question) (s : ℕ) (p : List ℕ) → Shortest q s p → length p ≤ q .states

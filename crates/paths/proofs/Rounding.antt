@@ -1,6 +1,6 @@
 -- The rounds: the witnesses of one entry, one state settled, a round of all states, and what the distances say once they reach far enough.
 use mathlib.Core.Path.{_≡_, refl, sym, ap, _∙_}
-use Prim.Native.Nat.{ℕ, zero, suc, _+_, _-_, _≤_, _<_}
+use Prim.Native.Nat.{ℕ, _+_, _-_, _≤_, _<_}
 use mathlib.Core.List.{List, [], _∷_}
 use mathlib.Core.Bool.{Bool, true, false, cond, _||_}
 use mathlib.Core.Logic.{_⊎_, inl, inr, ⊎-elim}
@@ -14,7 +14,6 @@ use Rattle.lists.specs.Entries.{at}
 use Rattle.lists.specs.Rows.{Filled}
 use Rattle.lists.proofs.Numbers.{lt-or-le}
 use Rattle.lists.proofs.Rows.{filled-at, filled-length}
-use Rattle.lists.proofs.Tests.{or-neither}
 use Rattle.kripke.specs.Transitions.{Edge}
 use Rattle.paths.specs.Questions.{From, Reaches}
 use Rattle.paths.specs.Inside.{Down, Far, Layers, Rounded, Settled, Upto, atOnce}

@@ -1,8 +1,8 @@
 -- The run: for a question that is taken and a space with room exactly one whole run exists, every chain is a beginning of it, it holds every shortest witness and no other list, each once, ascending; after "end" comes "end".
-use mathlib.Core.Path.{_≡_, refl, sym, ap, ap₂, _∙_, subst}
-use Prim.Native.Nat.{ℕ, suc, _≤_, _<_}
+use mathlib.Core.Path.{_≡_, refl, sym, ap₂, _∙_, subst}
+use Prim.Native.Nat.{ℕ, _<_}
 use mathlib.Core.List.{List, [], _∷_, _++_}
-use mathlib.Core.Bool.{Bool, true, _||_}
+use mathlib.Core.Bool.{true, _||_}
 use mathlib.Core.Logic.{_⊎_, inl, inr, ⊎-elim, _↔_}
 use native.Mathlib.Omega.{arith}
 use native.Mathlib.Nat.{eq-zero-or-pos}
@@ -16,21 +16,20 @@ use Rattle.lists.proofs.Tests.{or-left}
 use Rattle.kripke.specs.Refusals.{tableCauses, tableRefusal}
 use Rattle.kripke.specs.Rows.{badRow}
 use Rattle.kripke.specs.Transitions.{Graph}
-use Rattle.kripke.specs.Walks.{Begins}
 use Rattle.kripke.proofs.Refusals.{accepted, table-rises}
-use Rattle.paths.specs.declared.FirstAnswer.{FirstAnswer}
 use Rattle.paths.specs.declared.FirstAnswer.the-variants as first
 use Rattle.paths.specs.declared.NextAnswer.{NextAnswer}
 use Rattle.paths.specs.declared.NextAnswer.the-variants as next
-use Rattle.paths.specs.Questions.{Question, Shortest, Witness}
+use Rattle.paths.specs.Questions.{Question, Shortest}
 use Rattle.paths.specs.Order.{Among, Ascending, Beyond, Least, Smaller}
-use Rattle.paths.specs.Refusals.{badLevel, causes, firstCauses, tablesCauses}
+use Rattle.paths.specs.Refusals.{TooShort, badLevel, causes, firstCauses, tablesCauses}
 use Rattle.paths.specs.Answers.{FirstPromise, NextPromise}
 use Rattle.paths.specs.Runs.{Chain, Ends, Goes, Opens, OpensNone, Roomy, Run}
 use Rattle.paths.proofs.Answering.{causes-rise, first-causes-rise, first-none-promised, first-path-promised, next-end-promised, next-path-promised}
 use Rattle.paths.proofs.Gathering.{Everyone, everyone}
 use Rattle.paths.proofs.OneAnswer.{first-one, next-one}
 use Rattle.paths.proofs.Orders.{smaller-irrefl, smaller-trans}
+use Rattle.paths.proofs.Refusing.{only-late}
 
 -- where a longer table of causes gives no number, neither does one whose causes are among its own
 fewer-causes : (cs ds : List Cause) → Rising 0 cs → Rising 0 ds → ((n : ℕ) → Applies cs n → Applies ds n) → refusalOf ds ≡ 0 → refusalOf cs ≡ 0
@@ -163,3 +162,14 @@ end-again q p after again a x y =
     let same : after ≡ p = x .says .untouched in
     let x′ : NextPromise q after after next.End = subst (λ (z : List ℕ). NextPromise q z after next.End) (sym same) x in
     next-one q after again after a next.End y x′
+
+-- on the way nothing is refused: neither by First nor by Next, lent a list of the run
+pub first-not-refused : (q : Question) (start : ℕ) (space after : List ℕ) (n : ℕ) → Roomy q start space → FirstPromise q start space after (first.Refused n) → ⊥
+first-not-refused q start space after n roomy f =
+    let late = only-late (firstCauses q start) (first-causes-rise q start) (λ (k : ℕ). (k ≡ 16) × TooShort q start (length space)) n (roomy .taken) (f .says .numbered) (f .number) .1 in
+    omega (arith, roomy .room (late .path) (late .shortest), late .longer)
+
+pub next-not-refused : (q : Question) (start : ℕ) (space : List ℕ) (ps : List (List ℕ)) (p after : List ℕ) (n : ℕ) → Roomy q start space → Run q start space ps → Among p ps → NextPromise q p after (next.Refused n) → ⊥
+next-not-refused q start space ps p after n roomy r m f =
+    let h : Shortest q start p = run-holds q start space roomy ps r .0 p .0 m in
+    only-late (causes q) (causes-rise q) (λ (k : ℕ). (k ≡ 17) × (Shortest q (at p 0) p → ⊥)) n (next-taken q start (roomy .taken)) (f .says .numbered) (f .number) .1 (subst (λ (x : ℕ). Shortest q x p) (first-entry q start p h) h)

@@ -1,6 +1,6 @@
 -- The successors of a state as its transitions are passed one after the other, and what `has` and `firstFit` say of them.
-use mathlib.Core.Path.{_≡_, refl, sym, ap, _∙_, subst}
-use Prim.Native.Nat.{ℕ, zero, suc, _+_, _*_, _-_, _/_, _≤_, _<_}
+use mathlib.Core.Path.{_≡_, refl, sym, ap, _∙_}
+use Prim.Native.Nat.{ℕ, suc, _+_, _*_, _-_, _≤_, _<_}
 use mathlib.Core.List.{List, [], _∷_, List·Memᴰ, List·Memᴰ·head, List·Memᴰ·tail, List·Memᴰ·cases-cons, List·Memᴰ·not-nil}
 use mathlib.Core.Bool.{Bool, true, false, cond, _&&_, _||_, true≢false}
 use mathlib.Core.Logic.{_⊎_, inl, inr, ⊎-elim}
@@ -8,10 +8,10 @@ use native.Mathlib.Numerals.{add-one}
 use native.Mathlib.Omega.{arith}
 use lib.ListN.{length}
 use lib.Dec.{eqb, leb}
-use borrow.Author.Tests.{le-leb, lt-leb, eq-eqb, ne-eqb, leb-true, eqb-true, eqb-false}
-use Rattle.lists.specs.Entries.{at, All}
+use borrow.Author.Tests.{le-leb, lt-leb, eq-eqb, ne-eqb, eqb-true, eqb-false}
+use Rattle.lists.specs.Entries.{at}
 use Rattle.lists.proofs.Entries.{all-at}
-use Rattle.lists.proofs.Tests.{and-both, and-fails, and-holds, and-parts, or-fails, or-left, or-neither}
+use Rattle.lists.proofs.Tests.{and-both, and-fails, or-fails, or-left, or-neither}
 use Rattle.kripke.specs.Transitions.{Edge, count, ends, succs, to}
 use Rattle.kripke.proofs.Successors.{edge-succ, succ-edge}
 use Rattle.paths.specs.Inside.{Ready, firstFit, has}

@@ -1,6 +1,6 @@
 -- Over distances that reach far enough, the shortest witnesses are the ways down: the least one, the next one, and the last one.
-use mathlib.Core.Path.{_≡_, refl, sym, ap, ap₂, _∙_}
-use Prim.Native.Nat.{ℕ, _+_, _≤_, _<_}
+use mathlib.Core.Path.{_≡_, refl, sym, ap₂}
+use Prim.Native.Nat.{ℕ, _≤_, _<_}
 use mathlib.Core.List.{List, [], _∷_}
 use mathlib.Core.Logic.{_⊎_, inl, inr, ⊎-elim}
 use native.Mathlib.Omega.{arith}
@@ -12,7 +12,7 @@ use Rattle.kripke.specs.Rows.{valueAt}
 use Rattle.kripke.proofs.StoredRows.{RowTaken}
 use Rattle.paths.specs.Questions.{From, LeftHolds, Question, Reaches, RightHolds, Shortest, Witness}
 use Rattle.paths.specs.Order.{Beyond, Least, Smaller}
-use Rattle.paths.specs.Inside.{Down, Far, Greatest, Greedy, Onto, Upto}
+use Rattle.paths.specs.Inside.{Down, Far, Greatest, Greedy, Onto}
 use Rattle.paths.proofs.Advancing.{down-length}
 use Rattle.paths.proofs.Places.{from-map}
 use Rattle.paths.proofs.Rounding.{far-down}

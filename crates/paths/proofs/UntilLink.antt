@@ -1,9 +1,9 @@
 -- A witness at the level exists exactly if E(left U right) reaches it, by induction on the entries of the witness and of the walk.
-use mathlib.Core.Path.{_≡_, refl, sym, ap, _∙_, subst}
+use mathlib.Core.Path.{_≡_, refl, ap, _∙_, subst}
 use Prim.Native.Nat.{ℕ, zero, suc, _≤_, _<_, min, max}
 use mathlib.Core.List.{List, [], _∷_, map}
 use mathlib.Core.Bool.{false}
-use mathlib.Core.Logic.{_⊎_, inl, inr, ⊎-elim, _↔_}
+use mathlib.Core.Logic.{_⊎_, ⊎-elim, _↔_}
 use native.Mathlib.Numerals.{add-one}
 use native.Mathlib.Omega.{arith}
 use native.Mathlib.Nat.{le-of-eq, le-trans}
@@ -14,16 +14,15 @@ use Rattle.lists.proofs.Choosing.{best-bounds}
 use Rattle.lists.proofs.Numbers.{reach-max}
 use Rattle.lists.proofs.Rows.{tab-at}
 use Rattle.kripke.specs.Rows.{rowValues, valueAt}
-use Rattle.kripke.specs.Transitions.{Edge, Graph, succs}
+use Rattle.kripke.specs.Transitions.{Graph, succs}
 use Rattle.kripke.specs.Until.{step, until}
 use Rattle.kripke.specs.Walks.{Begins}
 use Rattle.kripke.proofs.EndlessPaths.{chosen}
 use Rattle.kripke.proofs.Rest.{enough, never-above}
 use Rattle.kripke.proofs.Steps.{until-one, until-step}
 use Rattle.kripke.proofs.Successors.{edge-state, edge-succ}
-use Rattle.paths.specs.Questions.{From, LeftHolds, Question, Reaches, RightHolds, Witness}
+use Rattle.paths.specs.Questions.{From, LeftHolds, Question, Reaches, RightHolds, Witness, Witnessed}
 use Rattle.paths.proofs.Places.{from-map}
-use Rattle.paths.proofs.Room.{Some}
 
 module _ (S : ℕ) (es : List ℕ) (G : Graph S es) (L R : List ℕ) (w : ℕ) where
   abbrev Fr : ℕ → List ℕ → Type 0
@@ -67,7 +66,7 @@ values-at : (S : ℕ) (stored : List ℕ) (s : ℕ) → s < S → at (rowValues 
 unfolding rowValues
 values-at S stored s h = tab-at (valueAt stored) S s h
 
-pub until-link : (q : Question) (s : ℕ) → Graph (q .states) (q .transitions) → s < q .states → Some q s ↔ (q .level ≤ until false (q .transitions) (rowValues (q .states) (q .left)) (rowValues (q .states) (q .right)) (q .states) s)
+pub until-link : (q : Question) (s : ℕ) → Graph (q .states) (q .transitions) → s < q .states → Witnessed q s ↔ (q .level ≤ until false (q .transitions) (rowValues (q .states) (q .left)) (rowValues (q .states) (q .right)) (q .states) s)
 until-link q s G h = (λ x. link .0 (out (x .0) (x .1) (x .2)), λ v. let x = link .1 v in (s ∷ x .0, refl, from-map (q .transitions) _ _ (LeftHolds q) (RightHolds q) (back (q .left)) (back (q .right)) s (x .0) (x .1)))
   where
     link : ((p : List ℕ) × From (q .transitions) (Reaches (q .states) (q .level) (at (rowValues (q .states) (q .left)))) (Reaches (q .states) (q .level) (at (rowValues (q .states) (q .right)))) s p) ↔ (q .level ≤ until false (q .transitions) (rowValues (q .states) (q .left)) (rowValues (q .states) (q .right)) (q .states) s)

@@ -1,13 +1,12 @@
 -- Ways down the distances: the smallest, the one with no larger, and the next larger one.
 use mathlib.Core.Path.{_≡_, refl, sym, ap₂, _∙_}
-use Prim.Native.Nat.{ℕ, _+_, _≤_, _<_}
+use Prim.Native.Nat.{ℕ}
 use mathlib.Core.List.{List, [], _∷_}
 use mathlib.Core.Logic.{_⊎_, inl, inr, ⊎-elim}
 use native.Mathlib.Omega.{arith}
 use native.Mathlib.Nat.{eq-or-lt-of-le}
-use lib.ListN.{length}
 use Rattle.paths.specs.Order.{Smaller}
-use Rattle.paths.specs.Inside.{Below, Down, Greatest, Greedy, Onto}
+use Rattle.paths.specs.Inside.{Down, Greatest, Greedy, Onto}
 use Rattle.paths.proofs.Advancing.{down-length}
 
 module _ (es : List ℕ) (d : ℕ → ℕ) where

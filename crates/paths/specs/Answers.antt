@@ -49,12 +49,14 @@ pub record Unchanged (n : ℕ) (before after : List ℕ) : Type 0 where
   pub numbered : 0 < n
   pub untouched : after ≡ before
 
--- the list is overwritten with the next larger shortest witness from its first entry
+-- the lent list is a shortest witness from its first entry, and is overwritten with the next larger one
 pub record NextPath (q : Question) (before after : List ℕ) : Type 0 where
+  pub lent : Shortest q (at before 0) before
   pub path : Least (Beyond (Shortest q (at before 0)) before) after
 
--- no shortest witness from the list's first entry is larger, and the list stays
+-- the lent list is a shortest witness from its first entry, none is larger, and it stays
 pub record NoMore (q : Question) (before after : List ℕ) : Type 0 where
+  pub lent : Shortest q (at before 0) before
   pub none : (p : List ℕ) → Beyond (Shortest q (at before 0)) before p → ⊥
   pub untouched : after ≡ before
 

@@ -44,3 +44,10 @@ pub record Shortest (q : Question) (s : ℕ) (p : List ℕ) : Type 0 where
   pub begins : Begins s p
   pub witness : Witness q p
   pub fewest : (r : List ℕ) → Begins s r → Witness q r → length p ≤ length r
+
+-- there is a witness that begins with s, and there is one of at most n entries
+abbrev pub Witnessed : Question → ℕ → Type 0
+Witnessed q s = (p : List ℕ) × Begins s p × Witness q p
+
+abbrev pub WitnessedWithin : Question → ℕ → ℕ → Type 0
+WitnessedWithin q s n = (p : List ℕ) × Begins s p × Witness q p × (length p ≤ n)

@@ -1,9 +1,7 @@
 // The first entry of a list at fault.
 ghost use mathlib.Core.Path.{_≡_};
-ghost use mathlib.Core.Bool.{not, _&&_};
 ghost use Prim.Native.Nat.{_+_, _-_, _<_, _≤_};
 ghost use lib.ListN.{length};
-ghost use lib.Dec.{ltb};
 ghost use Rattle.lists.specs.Entries.{at};
 ghost use Rattle.kripke.specs.Transitions.{succs};
 ghost use Rattle.paths.specs.Inside.{Ready, has, unjoined, atFault, FaultFound};

@@ -8,6 +8,46 @@ const TRANSITION_NUMBERS: usize = 2100;
 
 const ENTRIES: usize = 300;
 
+// The first entries of a list, or none where it has fewer.
+fn numbers(list: &[u16], n: usize) -> &[u16] {
+    if list.len() < n {
+        return &list[..0];
+    }
+    &list[..n]
+}
+
+fn bytes(list: &[u8], n: usize) -> &[u8] {
+    if list.len() < n {
+        return &list[..0];
+    }
+    &list[..n]
+}
+
+fn count(number: u16) -> usize {
+    number as usize
+}
+
+fn level(number: u16) -> u8 {
+    (number % 256) as u8
+}
+
+// First, lent the first entries of a space.
+fn ask_first(head: &[u16; 4], transitions: &[u16], left: &[u8], right: &[u8], space: &mut [u16]) {
+    let room = count(head[3]);
+    if space.len() < room {
+        return;
+    }
+    telling::all_paths(
+        count(head[0]),
+        transitions,
+        left,
+        right,
+        level(head[1]),
+        count(head[2]),
+        &mut space[..room],
+    );
+}
+
 // Lines: states, level, start, room; transitions; left; right.
 pub(crate) fn first(body: &[u8]) {
     let mut head = [0u16; 4];
@@ -23,34 +63,33 @@ pub(crate) fn first(body: &[u8]) {
     let r = line_at(body, l.next, &mut other);
     to_bytes(&row, &mut left);
     to_bytes(&other, &mut right);
-    let states = head[0] as usize;
-    let level = (head[1] % 256) as u8;
-    let start = head[2] as usize;
-    let room = head[3] as usize % (ENTRIES + 1);
-    let tc = t.count;
-    let lc = l.count;
-    let rc = r.count;
-    telling::all_paths(
-        states,
-        &transitions[..tc],
-        &left[..lc],
-        &right[..rc],
-        level,
-        start,
-        &mut space[..room],
+    ask_first(
+        &head,
+        numbers(&transitions, t.count),
+        bytes(&left, l.count),
+        bytes(&right, r.count),
+        &mut space,
     );
 }
 
-// Lines: states, level; transitions; left; right; the list.
-pub(crate) fn next(body: &[u8]) {
-    list_question(body, true);
+// Next, lent the first entries of a list.
+fn ask_next(
+    states: usize,
+    transitions: &[u16],
+    left: &[u8],
+    right: &[u8],
+    level: u8,
+    n: usize,
+    list: &mut [u16],
+) {
+    if list.len() < n {
+        return;
+    }
+    telling::next_path(states, transitions, left, right, level, &mut list[..n]);
 }
 
-pub(crate) fn check(body: &[u8]) {
-    list_question(body, false);
-}
-
-fn list_question(body: &[u8], ask_next: bool) {
+// Lines: states, level; transitions; left; right; the list. Next or Check.
+pub(crate) fn about_list(body: &[u8], next: bool) {
     let mut head = [0u16; 4];
     let mut transitions = [0u16; TRANSITION_NUMBERS];
     let mut row = [0u16; ENTRIES];
@@ -65,29 +104,14 @@ fn list_question(body: &[u8], ask_next: bool) {
     let p = line_at(body, r.next, &mut list);
     to_bytes(&row, &mut left);
     to_bytes(&other, &mut right);
-    let states = head[0] as usize;
-    let level = (head[1] % 256) as u8;
-    let tc = t.count;
-    let lc = l.count;
-    let rc = r.count;
-    let pc = p.count;
-    if ask_next {
-        telling::next_path(
-            states,
-            &transitions[..tc],
-            &left[..lc],
-            &right[..rc],
-            level,
-            &mut list[..pc],
-        );
+    let states = count(head[0]);
+    let at = level(head[1]);
+    let edges = numbers(&transitions, t.count);
+    let lefts = bytes(&left, l.count);
+    let rights = bytes(&right, r.count);
+    if next {
+        ask_next(states, edges, lefts, rights, at, p.count, &mut list);
         return;
     }
-    telling::checked(
-        states,
-        &transitions[..tc],
-        &left[..lc],
-        &right[..rc],
-        level,
-        &list[..pc],
-    );
+    telling::checked(states, edges, lefts, rights, at, numbers(&list, p.count));
 }

@@ -22,21 +22,28 @@ use libc::STDOUT_FILENO;
 use sheet::Line;
 use sheet::Sheet;
 
-// The lines of an answer, one after the other.
-fn write_lines(sheet: Sheet, verdicts: &[u8]) {
+fn put(line: &[u8], n: usize) -> bool {
+    if line.len() < n {
+        return false;
+    }
+    io::write_all(STDOUT_FILENO, &line[..n])
+}
+
+// Line k of an answer; false where the last one came before.
+fn write_line(sheet: Sheet, verdicts: &[u8], k: usize) -> bool {
     let mut line = [0u8; MOST_STATES + 16];
+    match sheet::write_line(sheet, verdicts, k, &mut line) {
+        Line::Bytes(n) => put(&line, n),
+        Line::End => false,
+        _ => io::write_all(STDOUT_FILENO, b"no line\n"),
+    }
+}
+
+fn write_lines(sheet: Sheet, verdicts: &[u8]) {
     let mut k: usize = 0;
     while k < MOST_NODES + 2 {
-        match sheet::write_line(sheet, verdicts, k, &mut line) {
-            Line::Bytes(n) => {
-                if n <= MOST_STATES + 16 {
-                    io::write_all(STDOUT_FILENO, &line[..n]);
-                }
-            }
-            Line::End => return,
-            _ => {
-                io::write_all(STDOUT_FILENO, b"no line\n");
-            }
+        if !write_line(sheet, verdicts, k) {
+            return;
         }
         k += 1;
     }
@@ -71,10 +78,10 @@ fn answer(body: &[u8]) {
         asking::first(body);
     }
     if kind == b'N' {
-        asking::next(body);
+        asking::about_list(body, true);
     }
     if kind == b'C' {
-        asking::check(body);
+        asking::about_list(body, false);
     }
     io::write_all(STDOUT_FILENO, b".\n");
 }

@@ -13,17 +13,56 @@ pub(crate) fn refused(number: u8) {
     io::write_all(STDOUT_FILENO, b"\n");
 }
 
-pub(crate) fn path(list: &[u16]) {
-    io::write_all(STDOUT_FILENO, b"path=");
+fn put_number(number: u16) {
+    io::print_decimal(STDOUT_FILENO, number as u64);
+}
+
+// Entry i of a list, a comma before each but the first.
+fn entry(list: &[u16], i: usize) {
+    if list.len() <= i {
+        return;
+    }
+    if 0 < i {
+        io::write_all(STDOUT_FILENO, b",");
+    }
+    put_number(list[i]);
+}
+
+fn entries(list: &[u16]) {
     let mut i: usize = 0;
     while i < list.len() {
-        if 0 < i {
-            io::write_all(STDOUT_FILENO, b",");
-        }
-        io::print_decimal(STDOUT_FILENO, list[i] as u64);
+        entry(list, i);
         i += 1;
     }
+}
+
+pub(crate) fn path(list: &[u16]) {
+    io::write_all(STDOUT_FILENO, b"path=");
+    entries(list);
     io::write_all(STDOUT_FILENO, b"\n");
+}
+
+// A list told, and the next path asked for in its place; false where that was the last, with how it ended.
+fn went_on(
+    states: usize,
+    transitions: &[u16],
+    left: &[u8],
+    right: &[u8],
+    level: u8,
+    list: &mut [u16],
+) -> bool {
+    path(list);
+    match paths::next(states, transitions, left, right, level, list) {
+        NextAnswer::Path => true,
+        NextAnswer::End => {
+            io::write_all(STDOUT_FILENO, b"end\n");
+            false
+        }
+        NextAnswer::Refused(n) => {
+            refused(n);
+            false
+        }
+    }
 }
 
 // Tells a path, asks for the next one, and so on.
@@ -37,21 +76,32 @@ fn from_path(
 ) {
     let mut told: usize = 0;
     while told < MOST_TOLD {
-        path(list);
-        match paths::next(states, transitions, left, right, level, list) {
-            NextAnswer::Path => {}
-            NextAnswer::End => {
-                io::write_all(STDOUT_FILENO, b"end\n");
-                return;
-            }
-            NextAnswer::Refused(n) => {
-                refused(n);
-                return;
-            }
+        if !went_on(states, transitions, left, right, level, list) {
+            return;
         }
         told += 1;
     }
+    more();
+}
+
+fn more() {
     io::write_all(STDOUT_FILENO, b"more\n");
+}
+
+// The path that First handed out, told, and those after it.
+fn from_first(
+    states: usize,
+    transitions: &[u16],
+    left: &[u8],
+    right: &[u8],
+    level: u8,
+    n: usize,
+    space: &mut [u16],
+) {
+    if space.len() < n {
+        return;
+    }
+    from_path(states, transitions, left, right, level, &mut space[..n]);
 }
 
 pub(crate) fn all_paths(
@@ -64,11 +114,7 @@ pub(crate) fn all_paths(
     space: &mut [u16],
 ) {
     match paths::first(states, transitions, left, right, level, start, space) {
-        FirstAnswer::Path(n) => {
-            if n <= space.len() {
-                from_path(states, transitions, left, right, level, &mut space[..n]);
-            }
-        }
+        FirstAnswer::Path(n) => from_first(states, transitions, left, right, level, n, space),
         FirstAnswer::None => {
             io::write_all(STDOUT_FILENO, b"none\n");
         }

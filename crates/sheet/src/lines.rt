@@ -19,12 +19,7 @@ pub(crate) fn line_of(answer: Written) -> Line
 }
 
 // The line of row k of the verdict space.
-pub(crate) fn write_row_at(
-    states: usize,
-    verdicts: &[u8],
-    k: usize,
-    buffer: &mut [u8],
-) -> Written
+pub(crate) fn write_row_at(states: usize, verdicts: &[u8], k: usize, buffer: &mut [u8]) -> Written
     ensures { λ r. ⌜ LineWritten (rowAt states (now (verdicts .entry)) k) (now (buffer .entry)) (now (buffer .exit)) r ⌝ }
 {
     if MOST_NODES <= k {

@@ -35,7 +35,15 @@ fn put_path(list: &[u16]) {
 }
 
 // Tells a path, asks for the next one, and so on, so many in all.
-fn tell_from(states: usize, transitions: &[u16], left: &[u8], right: &[u8], level: u8, most: usize, list: &mut [u16]) {
+fn tell_from(
+    states: usize,
+    transitions: &[u16],
+    left: &[u8],
+    right: &[u8],
+    level: u8,
+    most: usize,
+    list: &mut [u16],
+) {
     let mut told: usize = 0;
     while told < most {
         put_path(list);
@@ -55,12 +63,28 @@ fn tell_from(states: usize, transitions: &[u16], left: &[u8], right: &[u8], leve
     io::write_all(STDOUT_FILENO, b"more\n");
 }
 
-fn tell(states: usize, transitions: &[u16], left: &[u8], right: &[u8], level: u8, start: usize, most: usize) {
+fn tell(
+    states: usize,
+    transitions: &[u16],
+    left: &[u8],
+    right: &[u8],
+    level: u8,
+    start: usize,
+    most: usize,
+) {
     let mut space = [0u16; MOST_STATES];
     match paths::first(states, transitions, left, right, level, start, &mut space) {
         FirstAnswer::Path(n) => {
             if n <= MOST_STATES {
-                tell_from(states, transitions, left, right, level, most, &mut space[..n]);
+                tell_from(
+                    states,
+                    transitions,
+                    left,
+                    right,
+                    level,
+                    most,
+                    &mut space[..n],
+                );
             }
         }
         FirstAnswer::None => {

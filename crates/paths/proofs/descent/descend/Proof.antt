@@ -1,8 +1,8 @@
 -- `descend` meets its contract: each place has the smallest state below the one before.
-use mathlib.Core.Path.{_≡_, _∙_}
-use Prim.Native.Nat.{_-_, _≤_, _<_}
+use mathlib.Core.Path.{_∙_}
+use Prim.Native.Nat.{_-_}
 use native.Mathlib.Omega.{arith}
-use lib.ListN.{length, length-set}
+use lib.ListN.{length-set}
 use Rattle.paths.proofs.Fits.{picked}
 use Rattle.paths.proofs.Descending.{Filling, filling-end, filling-in, filling-start, filling-step, picked-lowest}
 use borrow.Author.Needs.{needs}

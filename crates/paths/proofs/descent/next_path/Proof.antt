@@ -1,6 +1,4 @@
 -- `next_path` meets its contract: the length is not the distance, or `advance` has gone on or not.
-use mathlib.Core.Path.{refl}
-use Prim.Native.Nat.{_≤_}
 use native.Mathlib.Omega.{arith}
 use Rattle.lists.specs.Entries.{at}
 use borrow.Author.Needs.{needs}

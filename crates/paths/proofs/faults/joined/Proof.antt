@@ -1,8 +1,7 @@
 -- `joined` meets its contract: a scan of the transitions of s.
 use mathlib.Core.Path.{_≡_, sym, ap, _∙_}
-use Prim.Native.Nat.{_+_, _*_, _-_, _≤_}
+use Prim.Native.Nat.{_+_, _*_, _-_}
 use native.Mathlib.Omega.{arith}
-use Rattle.lists.specs.Entries.{at}
 use Rattle.kripke.specs.Transitions.{ends, succs}
 use Rattle.paths.specs.Inside.{has}
 use Rattle.paths.proofs.Scans.{Scan, has-here, has-none, has-passed, ranged}

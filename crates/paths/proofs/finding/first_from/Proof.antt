@@ -1,5 +1,4 @@
 -- `first_from` meets its contract: the distances that `measure` left are those that `first_path` goes by.
-use Prim.Native.Nat.{_≤_}
 use native.Mathlib.Omega.{arith}
 use Rattle.paths.proofs.Rounding.{far-layers}
 use borrow.Author.Needs.{needs}

@@ -1,11 +1,9 @@
 -- `next_from` meets its contract: an entry at fault, or the distances that `measure` left are those that `next_path` goes by.
 use mathlib.Core.Path.{refl, subst}
-use Prim.Native.Nat.{_≤_}
 use mathlib.Core.Logic.{inl, inr}
 use native.Mathlib.Omega.{arith}
 use lib.ListN.{drop, length-drop}
 use Rattle.lists.specs.Entries.{at}
-use Rattle.paths.specs.declared.faults.Fault.the-variants.{At, Nowhere}
 use Rattle.paths.specs.Inside.{FaultFound}
 use Rattle.paths.proofs.Breaks.{faultless, first-state}
 use Rattle.paths.proofs.Rounding.{far-down, far-layers}

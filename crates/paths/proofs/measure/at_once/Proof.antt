@@ -1,5 +1,4 @@
 -- `at_once` meets its contract: the tests, one after the other.
-use mathlib.Core.Path.{sym, ap, _∙_}
 use borrow.Author.Tests.{le-leb, lt-leb, le-ltb, lt-ltb}
 use Rattle.paths.specs.Inside.{atOnce}
 use borrow.Author.Needs.{needs}

@@ -2,7 +2,6 @@
 use mathlib.Core.Path.{refl}
 use mathlib.Core.Logic.{inl, inr}
 use native.Mathlib.Omega.{arith}
-use lib.ListN.{length-set}
 use Rattle.paths.proofs.Fits.{pick-none, picked}
 use borrow.Author.Needs.{needs}
 use Rattle.paths.proofs.measure.settle.Statement.{statement}

@@ -1,5 +1,4 @@
 -- `bad_level` meets its contract: the tests, one after the other.
-use mathlib.Core.Path.{sym, ap, _∙_}
 use borrow.Author.Tests.{eq-eqb, ne-eqb}
 use Rattle.paths.specs.Refusals.{badLevel}
 use Rattle.paths.proofs.tables.bad_level.Statement.{statement}

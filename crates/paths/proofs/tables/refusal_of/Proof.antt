@@ -1,5 +1,4 @@
 -- `refusal_of` meets its contract: the tests, one after the other.
-use mathlib.Core.Path.{sym, ap, _∙_}
 use borrow.Author.Tests.{eq-eqb, ne-eqb}
 use Rattle.paths.proofs.tables.refusal_of.Statement.{statement}
 use Rattle.paths.proofs.tables.refusal_of.Tie as tie

@@ -1,60 +1,51 @@
+-- `to_bytes` ends and stays within both lists.
+use mathlib.Core.Path.{_≡_}
+use Prim.Native.Nat.{_-_, _≤_}
+use native.Mathlib.Omega.{arith}
+use lib.ListN.{length, length-set}
 use borrow.Author.Needs.{needs}
 use Rattle.replay.proofs.numbers.to_bytes.Statement.{statement}
 use Rattle.replay.proofs.numbers.to_bytes.Tie as tie
-use Rattle.replay.proofs.numbers.to_bytes.Reads as reads
-use Rattle.replay.proofs.numbers.to_bytes.Lts as lts
 
 abbrev Inv-loop : tie.InvT-loop
-Inv-loop numbers bytes₀ i₀ bytes i = ?
+Inv-loop numbers bytes₀ i₀ bytes i = (i ≤ length numbers) × (length bytes ≡ length bytes₀)
 
 abbrev μ-loop : tie.MeasureT-loop
-μ-loop numbers bytes₀ i₀ bytes i = ?
+μ-loop numbers bytes₀ i₀ bytes i = length numbers - i
 
--- src/numbers.rt:96:5
 loop-holds : tie.Need-loop-holds Inv-loop μ-loop
 loop-holds c = search needs
 
--- src/numbers.rt:98:13
 same-length : tie.Need-same-length Inv-loop μ-loop
 same-length c = search needs
 
--- src/numbers.rt:98:13
 returns : tie.Need-returns Inv-loop μ-loop
 returns c = search needs
 
--- src/numbers.rt:100:21
 mul-bytes : tie.Need-mul-bytes Inv-loop μ-loop
 mul-bytes c = search needs
 
--- src/numbers.rt:100:21
 shared-slice-read-bytes : tie.Need-shared-slice-read-bytes Inv-loop μ-loop
 shared-slice-read-bytes c = search needs
 
--- src/numbers.rt:100:20
 cast-bytes : tie.Need-cast-bytes Inv-loop μ-loop
 cast-bytes c = search needs
 
--- src/numbers.rt:100:9
 slice-write-bytes : tie.Need-slice-write-bytes Inv-loop μ-loop
 slice-write-bytes c = search needs
 
--- src/numbers.rt:101:9
 add-i : tie.Need-add-i Inv-loop μ-loop
 add-i c = search needs
 
--- src/numbers.rt:96:5
 loop-less : tie.Need-loop-less Inv-loop μ-loop
 loop-less c = search needs
 
--- src/numbers.rt:96:5
 loop-again : tie.Need-loop-again Inv-loop μ-loop
-loop-again c = search needs
+loop-again c = (omega arith, simp length-set (omega arith))
 
--- src/numbers.rt:94:1
 same-length-2 : tie.Need-same-length-2 Inv-loop μ-loop
 same-length-2 c = search needs
 
--- src/numbers.rt:94:1
 returns-2 : tie.Need-returns-2 Inv-loop μ-loop
 returns-2 c = search needs
 
