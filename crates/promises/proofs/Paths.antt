@@ -16,7 +16,7 @@ use Rattle.kripke.specs.Rows.{badRow}
 use Rattle.kripke.specs.Transitions.{Graph}
 use Rattle.lists.specs.Causes.{Given, cause, refusalOf}
 use Rattle.paths.specs.Answers.{FirstPromise}
-use Rattle.paths.specs.Questions.{Question, asked}
+use Rattle.paths.specs.Questions.{Question, Witnessed, asked}
 use Rattle.paths.specs.Refusals.{FirstApplies, badLevel, firstCauses}
 use Rattle.promises.specs.Paths.{ChainIsBeginning, EndAgain, EveryShortestPath, FirstExactly, OnePathAnswer, RoomEnough, rowIn}
 use Rattle.promises.specs.Verdicts.{held}
@@ -34,7 +34,6 @@ use Rattle.paths.proofs.UntilLink.{until-link}
 use Rattle.ctl.specs.declared.Judged.{Judged}
 use Rattle.paths.specs.declared.FirstAnswer.{FirstAnswer}
 use Rattle.paths.specs.declared.FirstAnswer.the-variants as first
-use Rattle.paths.proofs.Room as witnessed
 
 pub everyShortestPath : EveryShortestPath
 everyShortestPath q start space roomy =
@@ -55,7 +54,7 @@ pub onePathAnswer : OnePathAnswer
 onePathAnswer = (first-one, next-one, check-one)
 
 -- an answer to a question that no cause refuses, with room enough, is a path exactly if there is a witness
-path-or-none : (q : Question) (start : ℕ) (space space′ : List ℕ) (answer : FirstAnswer) → Graph (q .states) (q .transitions) → start < q .states → refusalOf (firstCauses q start) ≡ 0 → q .states ≤ length space → FirstPromise q start space space′ answer → (witnessed.Some q start → (n : ℕ) × (answer ≡ first.Path n)) × ((witnessed.Some q start → ⊥) → answer ≡ first.None)
+path-or-none : (q : Question) (start : ℕ) (space space′ : List ℕ) (answer : FirstAnswer) → Graph (q .states) (q .transitions) → start < q .states → refusalOf (firstCauses q start) ≡ 0 → q .states ≤ length space → FirstPromise q start space space′ answer → (Witnessed q start → (n : ℕ) × (answer ≡ first.Path n)) × ((Witnessed q start → ⊥) → answer ≡ first.None)
 path-or-none q start space space′ (first.Path n) G h fine room p = (λ w. (n, refl), λ no. absurd (no (let l = p .says .path .is in (take n space′, l .begins, l .witness))))
 path-or-none q start space space′ first.None G h fine room p = (λ w. absurd (p .says .none (w .0) (w .1) (w .2)), λ no. refl)
 path-or-none q start space space′ (first.Refused n) G h fine room p = absurd (refused-not n (p .says .numbered) (p .number .applies (λ z. omega (arith, p .says .numbered))))
