@@ -62,15 +62,23 @@ advancing-in {S} {es} {d} {p₀} {p} {i} l x w j h =
     let y = down-distance es (at d) p j (omega arith) w′ in
     (l .inside (at p j) (omega arith), y)
 
+-- the place j before i: the step that leads to i, what is picked beyond it, and that nothing behind it is larger
+record Stepped (S : ℕ) (es d p : List ℕ) (j u want : ℕ) : Type 0 where
+  pub step : Below es (at d) (at p j) (at p (j + 1))
+  pub pick : Picked S es d (at p j) want (at p (j + 1) + 1) u
+  pub distance : at d (at p (j + 1)) ≡ want
+  pub top : Greatest es (at d) (at p (j + 1)) (drop (j + 1 + 1) p)
+
+stepped : {S : ℕ} {es d p₀ p : List ℕ} {i u want : ℕ} (j : ℕ) → Advancing es (at d) p₀ p i → i ≡ j + 1 → Down es (at d) (at p₀ 0) (drop 1 p₀) → Picked S es d (at p j) want (at p i + 1) u → at d (at p i) ≡ want → Stepped S es d p j u want
+stepped {S} {es} {d} {p₀} {p} {i} {u} {want} j x e w k q =
+    let here = x .here in
+    record { step = down-step es (at d) p j (omega arith) (rw (x .same) w); pick = rw e at k; distance = rw e at q; top = rw e at (x .top) }
+
 -- no larger state at this place either
 pub advancing-step : {S : ℕ} {es d p₀ p : List ℕ} {i u want : ℕ} (j : ℕ) → Graph S es → Advancing es (at d) p₀ p i → i ≡ j + 1 → Down es (at d) (at p₀ 0) (drop 1 p₀) → Picked S es d (at p j) want (at p i + 1) u → at d (at p i) ≡ want → S ≤ u → Advancing es (at d) p₀ p j
 advancing-step {S} {es} {d} {p₀} {p} {i} {u} {want} j G x e w k q h =
     let here = x .here in
-    let w′ : Down es (at d) (at p 0) (drop 1 p) = rw (x .same) w in
-    let step = down-step es (at d) p j (omega arith) w′ in
-    let k′ : Picked S es d (at p j) want (at p (j + 1) + 1) u = rw e at k in
-    let q′ : at d (at p (j + 1)) ≡ want = rw e at q in
-    let top : Greatest es (at d) (at p (j + 1)) (drop (j + 1 + 1) p) = rw e at (x .top) in
+    let y = stepped j x e w k q in
     record {
       same = x .same;
       size = x .size;
@@ -78,10 +86,10 @@ advancing-step {S} {es} {d} {p₀} {p} {i} {u} {want} j G x e w k q h =
       top = rw (at-drop p (j + 1) (omega arith)) (
         λ v b.
             ⊎-elim
-            (λ (l : at p (j + 1) < v). absurd (omega (arith, k′ .least v (b .0) (omega (arith, b .1, step .1)) (omega arith), edge-state S es G (at p j) v (b .0))))
+            (λ (l : at p (j + 1) < v). absurd (omega (arith, y .pick .least v (b .0) (omega (arith, b .1, y .step .1, y .distance)) (omega arith), edge-state S es G (at p j) v (b .0))))
             (λ (l : v ≤ at p (j + 1)). l)
             (lt-or-le (at p (j + 1)) v),
-        top,
+        y .top,
       );
     }
 
@@ -103,12 +111,8 @@ advancing-found {S} {es} {d} {p₀} {p} {part} {after} {i} {u} {want} j x e w k 
     let here = x .here in
     let front : length (take i p) ≡ i = length-take-le i p (omega arith) in
     let agree : (m : ℕ) → m ≤ j → at p m ≡ at after m = λ m l. rw (is, List·getD-append (take i p) part 0 m (omega arith), getD-take i p m 0 (omega arith)) in
-    let w′ : Down es (at d) (at p 0) (drop 1 p) = rw (x .same) w in
-    let step = down-step es (at d) p j (omega arith) w′ in
-    let k′ : Picked S es d (at p j) want (at p (j + 1) + 1) u = rw e at k in
-    let q′ : at d (at p (j + 1)) ≡ want = rw e at q in
-    let top : Greatest es (at d) (at p (j + 1)) (drop (j + 1 + 1) p) = rw e at (x .top) in
-    let one = k′ .is-one h in
+    let y = stepped j x e w k q in
+    let one = y .pick .is-one h in
     let rest : drop (j + 1) after ≡ u ∷ f .tail = rw (← e, is) (drop-at (take i p) part i front ∙ f .is) in
     record {
       size = long ∙ x .size;
@@ -116,7 +120,7 @@ advancing-found {S} {es} {d} {p₀} {p} {part} {after} {i} {u} {want} j x e w k 
       onto = λ z. rw (← x .same)
           (onto-from es (at d) p after j (omega arith) (omega arith) agree
           (rw (at-drop p (j + 1) (omega arith), rest)
-          (inr (top, (one .0, omega (arith, one .1, step .1)), omega (arith, one .2), λ v b l. k′ .least v (b .0) (omega (arith, b .1, step .1)) (omega arith), f .greedy))));
+          (inr (y .top, (one .0, omega (arith, one .1, y .step .1, y .distance)), omega (arith, one .2), λ v b l. y .pick .least v (b .0) (omega (arith, b .1, y .step .1, y .distance)) (omega arith), f .greedy))));
       top = λ z. absurd (true≢false z);
     }
 

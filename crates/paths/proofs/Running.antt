@@ -26,7 +26,7 @@ use Rattle.paths.specs.Refusals.{TooShort, badLevel, causes, firstCauses
 use Rattle.paths.specs.Answers.{FirstPromise, NextPromise}
 use Rattle.paths.specs.Runs.{Chain, Ends, Goes, Opens, OpensNone, Roomy, Run}
 use Rattle.paths.proofs.Answering.{causes-rise, first-causes-rise, first-none-promised, first-path-promised, next-end-promised, next-path-promised}
-use Rattle.paths.proofs.Gathering.{Everyone, everyone}
+use Rattle.paths.proofs.Gathering.{Everyone, everyone, shortestUpto}
 use Rattle.paths.proofs.OneAnswer.{first-one, next-one}
 use Rattle.paths.proofs.Orders.{smaller-irrefl, smaller-trans}
 use Rattle.paths.proofs.Refusing.{only-late}
@@ -136,7 +136,7 @@ run-one q start space (x ∷ ps) (y ∷ rs) a b =
 -- exactly one whole run exists
 pub one-run : (q : Question) (start : ℕ) (space : List ℕ) → Roomy q start space → (ps : List (List ℕ)) × Run q start space ps × ((rs : List (List ℕ)) → Run q start space rs → rs ≡ ps)
 one-run q start space roomy =
-    let e = everyone q (graph q start (roomy .taken)) start in
+    let e = everyone q start (graph q start (roomy .taken)) .0 in
     let run = run-of q start space roomy e (e .lists) refl in
     (e .lists, run, λ rs r. run-one q start space rs (e .lists) r run)
 
@@ -152,7 +152,7 @@ chain-beginning q start space (x ∷ ps) (y ∷ rs) c r =
 -- it holds every shortest witness from the start and no other list, each once, ascending
 pub run-holds : (q : Question) (start : ℕ) (space : List ℕ) → Roomy q start space → (ps : List (List ℕ)) → Run q start space ps → ((r : List ℕ) → Among r ps ↔ Shortest q start r) × Ascending ps
 run-holds q start space roomy ps r =
-    let e = everyone q (graph q start (roomy .taken)) start in
+    let e = everyone q start (graph q start (roomy .taken)) .0 in
     let same : e .lists ≡ ps = run-one q start space (e .lists) ps (run-of q start space roomy e (e .lists) refl) r in
     (λ v. (λ m. e .only v (subst (Among v) (sym same) m), λ h. subst (Among v) same (e .every v h)), subst Ascending same (e .ascending))
 
@@ -173,3 +173,7 @@ pub next-not-refused : (q : Question) (start : ℕ) (space : List ℕ) (ps : Lis
 next-not-refused q start space ps p after n roomy r m f =
     let h : Shortest q start p = run-holds q start space roomy ps r .0 p .0 m in
     only-late (causes q) (causes-rise q) (λ (k : ℕ). (k ≡ 17) × (Shortest q (at p 0) p → ⊥)) n (next-taken q start (roomy .taken)) (f .says .numbered) (f .number) .1 (subst (λ (x : ℕ). Shortest q x p) (first-entry q start p h) h)
+
+-- the run, computed: of the walks of the least length that has a witness, those that are one
+pub computed-run : (q : Question) (start : ℕ) (space : List ℕ) → Roomy q start space → Run q start space (shortestUpto q start (q .states))
+computed-run q start space roomy = let e = everyone q start (graph q start (roomy .taken)) in run-of q start space roomy (e .0) (shortestUpto q start (q .states)) (e .1)
