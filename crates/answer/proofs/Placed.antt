@@ -5,10 +5,9 @@ use mathlib.Core.List.{List, [], _∷_, _++_, append-assoc, append-nil}
 use native.Mathlib.Numerals.{add-one}
 use native.Mathlib.Nat.{add-zero}
 use native.Mathlib.Omega.{arith}
-use lib.ListN.{length, take, drop, set, length-append, length-set, length-take, take-append-drop}
+use lib.ListN.{length, take, drop, set, length-append, take-append-drop}
 use lib.Seq.{take-suc-set, drop-set-lt, drop-drop}
 use Rattle.lists.specs.Rows.{tab}
-use Rattle.lists.proofs.Rows.{length-tab}
 use Rattle.answer.specs.Inside.{Put}
 
 pub put-none : (l : List ℕ) (place : ℕ) → Put l l place place []

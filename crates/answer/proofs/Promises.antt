@@ -1,13 +1,13 @@
 -- The promise of a writer: a line that was put from the front on, one that has no room, and none; and that it permits one answer.
-use Prim.Native.Nat.{ℕ, _≤_, _<_, _+_}
-use mathlib.Core.Path.{_≡_, refl, ap, sym, _∙_}
-use mathlib.Core.List.{List, _++_}
-use mathlib.Core.Bool.{Bool, true, false, cond}
+use Prim.Native.Nat.{ℕ, _≤_, _<_}
+use mathlib.Core.Path.{_≡_, refl, sym, _∙_}
+use mathlib.Core.List.{List}
+use mathlib.Core.Bool.{Bool, true, false}
 use native.Mathlib.Omega.{arith}
-use lib.ListN.{length, drop}
+use lib.ListN.{length}
 use borrow.Author.Tests.{le-leb, lt-leb}
-use Rattle.answer.specs.Promise.{Due, lineIf, answerDue, bufferDue, LineWritten}
-use Rattle.answer.specs.Promise.Due.{line, none}
+use Rattle.answer.specs.Promise.{Due, lineIf, LineWritten}
+use Rattle.answer.specs.Promise.Due.{line}
 use Rattle.answer.specs.Inside.{Put}
 use Rattle.answer.specs.declared.Written.{Written}
 use Rattle.answer.specs.declared.Written.the-variants.{Bytes, NoRoom, NoLine}

@@ -1,8 +1,8 @@
 -- How long each line is, and the letters of a stored row.
-use Prim.Native.Nat.{ℕ, _+_, _≤_, _<_}
+use Prim.Native.Nat.{ℕ, _+_, _≤_}
 use mathlib.Core.Path.{_≡_, ap, sym, _∙_}
-use mathlib.Core.List.{List, [], _∷_, _++_, map}
-use mathlib.Core.Bool.{Bool, true, false, not, _&&_}
+use mathlib.Core.List.{List, [], _∷_, map}
+use mathlib.Core.Bool.{Bool, not, _&&_}
 use native.Mathlib.Omega.{arith}
 use lib.ListN.{length, length-append, length-map}
 use lib.Dec.{leb}
@@ -14,7 +14,8 @@ use Rattle.kripke.specs.Rows.{badRow, rowValues, valueAt}
 use Rattle.kripke.specs.Answers.{rowRead}
 use Rattle.kripke.specs.declared.rows.Row.{Row}
 use Rattle.kripke.proofs.StoredRows.{RowTaken}
-use Rattle.answer.specs.Lines.{lineFeed, letterOf, decimal, answerLine, rowLine, modelLine}
+use Rattle.answer.proofs.Digits.{decimal-short}
+use Rattle.answer.specs.Lines.{lineFeed, letterOf, decimal, answerLine, rowLine, modelLine, mostLine}
 
 pub answer-size : (n : ℕ) → length (answerLine n) ≡ length (decimal n) + 8
 unfolding answerLine
@@ -40,3 +41,13 @@ row-letters S stored values t =
 pub row-valid : (S : ℕ) (stored : List ℕ) (r : Row) (b : Bool) → r ≡ rowRead S stored → r .valid ≡ b → (leb S mostStates && not (badRow S stored)) ≡ b
 unfolding rowRead
 row-valid S stored r b e v = ap (λ (x : Row). x .valid) (sym e) ∙ v
+
+-- no line is longer than `mostLine`, so a buffer of so many bytes has room for each
+pub answer-fits : (n : ℕ) → length (answerLine n) ≤ mostLine
+answer-fits n = omega (arith, answer-size n, decimal-short n)
+
+pub row-fits : (S : ℕ) (stored : List ℕ) → S ≤ mostStates → length (rowLine (rowValues S stored)) ≤ mostLine
+row-fits S stored h = omega (arith, row-size S stored)
+
+pub model-fits : (v : ℕ) → length (modelLine v) ≤ mostLine
+model-fits v = omega (arith, model-size v)

@@ -4,6 +4,7 @@ use mathlib.Core.List.{List, [], _∷_, _++_, map}
 use mathlib.Core.Bool.{cond}
 use lib.Dec.{ltb}
 use Rattle.lists.specs.Entries.{at}
+use Rattle.kripke.specs.Limits.{mostStates}
 
 -- answer= row= model=
 abbrev pub keyAnswer : List ℕ
@@ -48,3 +49,7 @@ rowLine values = keyRow ++ (map letterOf values ++ (lineFeed ∷ []))
 -- model= and a letter
 unfoldable pub modelLine : ℕ → List ℕ
 modelLine v = keyModel ++ (letterOf v ∷ lineFeed ∷ [])
+
+-- the bytes of the longest line
+abbrev pub mostLine : ℕ
+mostLine = mostStates + 5

@@ -3,6 +3,7 @@
 //   put   bytes, letters and digits, one behind the other
 //
 // specs/Lines says what a line is, specs/Promise what each call promises.
+use kripke::limits::MOST_STATES;
 use kripke::rows::read_row;
 use kripke::values::Verdict;
 
@@ -15,6 +16,9 @@ use put::put_bytes;
 use put::put_decimal;
 use put::put_letters;
 ghost use Rattle.answer.specs.Promise.{numberDue, rowDue, modelDue, LineWritten};
+
+// A buffer of so many bytes has room for every line: the longest is row= with a letter a state.
+pub const MOST_LINE: usize = MOST_STATES + 5;
 
 // What writing a line answers. Only `Bytes` changes the buffer.
 pub enum Written {

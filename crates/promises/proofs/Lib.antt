@@ -2,3 +2,4 @@ pub mod Refusals
 pub mod Verdicts
 pub mod Meaning
 pub mod Paths
+pub mod Nights

@@ -1,16 +1,13 @@
 -- A model that was read fits into the fronts of its tables, and `judge_text` permits one answer.
-use Prim.Native.Nat.{ℕ, _*_, _+_, _≤_}
+use Prim.Native.Nat.{ℕ, _*_, _≤_}
 use mathlib.Core.Path.{_≡_, refl, ap, sym, _∙_}
-use mathlib.Core.List.{List, [], _∷_, _++_}
+use mathlib.Core.List.{List}
 use native.Mathlib.Omega.{arith}
 use native.Mathlib.Nat.{mul-comm}
 use lib.ListN.{length, drop, length-append}
-use Rattle.ctl.specs.declared.Judged.{Judged}
 use Rattle.ctl.proofs.OneAnswer.{judging-one}
 use Rattle.text.specs.Form.{Model}
-use Rattle.text.specs.Promise.{Tables, filled, tablesDue, ModelRead}
-use Rattle.text.specs.Promise.Outcome.{model}
-use Rattle.text.specs.Print.{Accepted}
+use Rattle.text.specs.Promise.{Tables, filled, ModelRead}
 use Rattle.text.specs.declared.Read.{Read}
 use Rattle.text.specs.declared.Read.the-variants as read
 use Rattle.text.proofs.Promised.{read-print, one-answer}

@@ -1,12 +1,17 @@
 -- Line k of the whole answer, by the tests on k, and that `write_line` permits one answer.
-use Prim.Native.Nat.{ℕ, zero, suc, _+_, _-_, _<_}
+use Prim.Native.Nat.{ℕ, zero, suc, _+_, _-_, _≤_, _<_}
 use mathlib.Core.Path.{_≡_, refl, ap, sym, _∙_}
 use mathlib.Core.List.{List, [], _∷_, _++_}
+use mathlib.Core.Bool.{Bool, true, false, cond}
 use native.Mathlib.Omega.{arith}
 use native.Mathlib.Nat.{add-zero, zero-add}
-use borrow.Author.Tests.{eq-eqb, ne-eqb}
+use lib.ListN.{length}
+use lib.Dec.{leb}
+use borrow.Author.Tests.{eq-eqb, ne-eqb, leb-true}
 use Rattle.answer.specs.Promise.{Due, numberDue, modelDue, LineWritten}
+use Rattle.answer.specs.Promise.Due.{line, none}
 use Rattle.answer.specs.declared.Written.{Written}
+use Rattle.answer.specs.declared.Written.the-variants as written
 use Rattle.sheet.specs.declared.Sheet.{Sheet}
 use Rattle.sheet.specs.declared.Line.{Line}
 use Rattle.sheet.specs.declared.Line.the-variants as said
@@ -69,3 +74,13 @@ line-past before e = rw e (record { answers = refl; buffer = refl })
 -- any two permitted answers coincide, the buffer too
 pub line-put-one : (place : Place) (before after after′ : List ℕ) (r r′ : Line) → LinePut place before after r → LinePut place before after′ r′ → (r ≡ r′) × (after ≡ after′)
 line-put-one place before after after′ r r′ p q = (p .answers ∙ sym (q .answers), p .buffer ∙ sym (q .buffer))
+
+-- the bytes of a line lie within the buffer
+bytes-within : (room size n : ℕ) (b : Bool) → leb size room ≡ b → lineOf (cond b (written.Bytes size) written.NoRoom) ≡ said.Bytes n → n ≤ room
+bytes-within room size n true t e = let same : size ≡ n = cc in omega (arith, leb-true size room t)
+bytes-within room size n false t e = absurd (let z : _≡_ {A = ℕ} 0 1 = cc in omega arith)
+
+pub line-within : (place : Place) (before after : List ℕ) (l : Line) (n : ℕ) → LinePut place before after l → l ≡ said.Bytes n → n ≤ length before
+line-within (here (line bytes)) before after l n p e = bytes-within (length before) (length bytes) n (leb (length bytes) (length before)) refl (sym (p .answers) ∙ e)
+line-within (here none) before after l n p e = absurd (let q = p .answers in let z : _≡_ {A = ℕ} 0 1 = cc in omega arith)
+line-within past before after l n p e = absurd (let q = p .answers in let z : _≡_ {A = ℕ} 0 1 = cc in omega arith)

@@ -1,12 +1,12 @@
 -- The line of row k of a verdict space, by the tests on k, the states and the space.
 use Prim.Native.Nat.{ℕ, zero, suc, _+_, _*_, _-_, _≤_, _<_}
-use mathlib.Core.Path.{_≡_, refl, ap, sym, _∙_}
+use mathlib.Core.Path.{_≡_, refl, ap, _∙_}
 use mathlib.Core.List.{List}
 use mathlib.Core.Bool.{Bool, true, false, not, _&&_}
 use native.Mathlib.Omega.{arith}
 use native.Mathlib.Nat.{mul-le-mul, mul-zero}
 use lib.ListN.{length, take, drop, length-take, length-drop}
-use lib.Dec.{leb, eqb}
+use lib.Dec.{leb}
 use borrow.Author.Tests.{lt-ltb, le-ltb, lt-leb, ne-eqb}
 use Rattle.kripke.specs.Limits.{mostStates, mostNodes}
 use Rattle.kripke.specs.Rows.{rowSize, rowBegin, badRow, rowValues}

@@ -1,7 +1,4 @@
 -- `write_model` meets its contract: the key, the letter and the line feed, one behind the other.
-use mathlib.Core.Path.{_≡_, ap, _∙_}
-use mathlib.Core.List.{List, [], _∷_}
-use Prim.Native.Nat.{ℕ}
 use native.Mathlib.Omega.{arith}
 use borrow.Author.Tests.{le-leb, lt-leb}
 use Rattle.answer.specs.Lines.{modelLine}

@@ -1,5 +1,4 @@
 -- `write_number` meets its contract: the key, the digits and the line feed, one behind the other.
-use mathlib.Core.Path.{ap}
 use native.Mathlib.Omega.{arith}
 use Rattle.answer.specs.Lines.{answerLine}
 use Rattle.answer.proofs.Placed.{put-then}

@@ -1,6 +1,4 @@
 -- `write_row` meets its contract: a row that was read has its letters put between the key and the line feed.
-use mathlib.Core.Path.{_≡_, ap, sym, _∙_}
-use Prim.Native.Nat.{ℕ, _≤_}
 use native.Mathlib.Omega.{arith}
 use borrow.Author.Tests.{not-true, not-false}
 use Rattle.lists.proofs.Rows.{length-tab}

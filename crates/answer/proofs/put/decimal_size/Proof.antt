@@ -1,7 +1,6 @@
 -- `decimal_size` meets its contract, by the number of digits.
 use borrow.Author.Tests.{lt-ltb, le-ltb}
 use Rattle.answer.specs.Lines.{decimal}
-use borrow.Author.Needs.{needs}
 use Rattle.answer.proofs.put.decimal_size.Statement.{statement}
 use Rattle.answer.proofs.put.decimal_size.Tie as tie
 

@@ -4,7 +4,6 @@ use Prim.Native.Nat.{ℕ, _≤_}
 use Rattle.kripke.specs.Values.{top}
 use native.Mathlib.Omega.{arith}
 use Rattle.answer.specs.Lines.{letterOf}
-use borrow.Author.Needs.{needs}
 use Rattle.answer.proofs.put.letter.Statement.{statement}
 use Rattle.answer.proofs.put.letter.Tie as tie
 

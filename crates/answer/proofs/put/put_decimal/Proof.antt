@@ -1,5 +1,5 @@
 -- `put_decimal` meets its contract: one digit, two or three, one behind the other.
-use mathlib.Core.Path.{ap, sym}
+use mathlib.Core.Path.{ap}
 use native.Mathlib.Omega.{arith}
 use lib.ListN.{length}
 use Rattle.answer.proofs.Placed.{put-then}

@@ -1,5 +1,4 @@
 -- `write_row_at` meets its contract: a row that the space has is written, and any other has no line.
-use mathlib.Core.Path.{sym}
 use native.Mathlib.Omega.{arith}
 use Rattle.sheet.proofs.RowLines.{row-within, row-past, row-many, row-here, row-short, none-written}
 use borrow.Author.Needs.{needs}
