@@ -1,5 +1,6 @@
 pub mod Refusals
 pub mod Verdicts
 pub mod Meaning
+pub mod Text
 pub mod Paths
 pub mod Nights

@@ -1,3 +1,4 @@
 pub mod Fronts
 pub mod Output
 pub mod RowLines
+pub mod Meaning

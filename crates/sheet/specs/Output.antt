@@ -1,14 +1,15 @@
 -- The whole answer as the list of its lines, and what `write_line` promises of line k.
 use Prim.Native.Nat.{ℕ, zero, suc}
 use mathlib.Core.Path.{_≡_}
-use mathlib.Core.List.{List, [], _∷_, _++_}
+use mathlib.Core.List.{List, [], _∷_, _++_, map}
 use mathlib.Core.Bool.{cond}
 use lib.ListN.{length, take, drop}
 use lib.Dec.{eqb, ltb}
 use Rattle.kripke.specs.Limits.{mostNodes}
 use Rattle.kripke.specs.Rows.{rowSize, rowBegin}
 use Rattle.answer.specs.Promise.{Due, numberDue, rowDue, modelDue, answerDue, bufferDue}
-use Rattle.answer.specs.Promise.Due.{none}
+use Rattle.answer.specs.Promise.Due.{line, none}
+use Rattle.answer.specs.Lines.{answerLine, rowLine, modelLine}
 use Rattle.answer.specs.declared.Written.{Written}
 use Rattle.answer.specs.declared.Written.the-variants as written
 use Rattle.sheet.specs.declared.Sheet.{Sheet}
@@ -29,6 +30,10 @@ unfoldable pub output : Sheet → List ℕ → List Due
 output sheet space =
     numberDue (sheet .number)
     ∷ cond (eqb (sheet .number) 0) (rowsFrom (sheet .states) space 0 (sheet .nodes) ++ (modelDue (sheet .model .0) ∷ [])) []
+
+-- the whole answer of a model that was judged, by the rows of its nodes and its verdict
+unfoldable pub whole : List (List ℕ) → ℕ → List Due
+whole rows v = line (answerLine 0) ∷ (map (λ (row : List ℕ). line (rowLine row)) rows ++ (line (modelLine v) ∷ []))
 
 -- one line of it, or the end
 pub data Place : Type 0 where
