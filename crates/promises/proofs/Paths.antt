@@ -18,7 +18,7 @@ use Rattle.lists.specs.Causes.{Given, cause, refusalOf}
 use Rattle.paths.specs.Answers.{FirstPromise}
 use Rattle.paths.specs.Questions.{Question, Witnessed, asked}
 use Rattle.paths.specs.Refusals.{FirstApplies, badLevel, firstCauses}
-use Rattle.promises.specs.Paths.{ChainIsBeginning, EndAgain, EveryShortestPath, FirstExactly, OnePathAnswer, RoomEnough, rowIn}
+use Rattle.promises.specs.Paths.{ChainIsBeginning, EndAgain, EveryShortestPath, FewEnough, FirstExactly, OnePathAnswer, RoomEnough, rowIn}
 use Rattle.promises.specs.Verdicts.{held}
 use Rattle.ctl.proofs.JudgeLaws.{judge-fine, operand-row-held, until-held}
 use Rattle.ctl.proofs.OneAnswer.{judging-number}
@@ -28,7 +28,7 @@ use Rattle.lists.proofs.Causes.{given, none-refused, refusal-append, skipped}
 use Rattle.lists.proofs.Tests.{or-none}
 use Rattle.paths.proofs.Answering.{first-causes-rise}
 use Rattle.paths.proofs.OneAnswer.{check-one, first-one, next-one}
-use Rattle.paths.proofs.Room.{never-16, shortest-few}
+use Rattle.paths.proofs.Room.{few-enough, never-16, shortest-few}
 use Rattle.paths.proofs.Running.{chain-beginning, end-again, one-run, run-holds}
 use Rattle.paths.proofs.UntilLink.{until-link}
 use Rattle.ctl.specs.declared.Judged.{Judged}
@@ -49,6 +49,9 @@ endAgain = end-again
 
 pub roomEnough : RoomEnough
 roomEnough q start = (shortest-few q start, never-16 q start)
+
+pub fewEnough : FewEnough
+fewEnough = few-enough
 
 pub onePathAnswer : OnePathAnswer
 onePathAnswer = (first-one, next-one, check-one)

@@ -15,7 +15,7 @@ use Rattle.paths.specs.declared.FirstAnswer.the-variants as first
 use Rattle.paths.specs.declared.NextAnswer.{NextAnswer}
 use Rattle.paths.specs.declared.NextAnswer.the-variants as next
 use Rattle.paths.specs.declared.CheckAnswer.{CheckAnswer}
-use Rattle.paths.specs.Questions.{Question, asked, Shortest}
+use Rattle.paths.specs.Questions.{Question, asked, Shortest, Witnessed, WitnessedWithin}
 use Rattle.paths.specs.Order.{Among, Ascending}
 use Rattle.paths.specs.Answers.{FirstPromise, NextPromise, CheckPromise}
 use Rattle.paths.specs.Runs.{Chain, Run, Roomy}
@@ -37,6 +37,10 @@ EndAgain = (q : Question) (p after again : List ℕ) (a : NextAnswer) → NextPr
 -- With as many entries as there are states the space is always large enough, and 16 is never given.
 abbrev pub RoomEnough : Type 0
 RoomEnough = (q : Question) (start : ℕ) → ((p : List ℕ) → Shortest q start p → length p ≤ q .states) × ((space after : List ℕ) → q .states ≤ length space → FirstPromise q start space after (first.Refused 16) → ⊥)
+
+-- A witness exists exactly if one does that has at most as many entries as there are states.
+abbrev pub FewEnough : Type 0
+FewEnough = (q : Question) (start : ℕ) → Witnessed q start ↔ WitnessedWithin q start (q .states)
 
 -- Any two answers that First, Next or Check may give coincide, and so do the spaces.
 abbrev pub OnePathAnswer : Type 0
