@@ -4,8 +4,8 @@ use Prim.Native.Nat.{_-_}
 use lib.ListN.{length}
 use borrow.Author.Needs.{needs}
 use Rattle.kripke.specs.Limits.{mostTransitions}
-use Rattle.nights.proofs.fill_transitions.Statement.{statement}
-use Rattle.nights.proofs.fill_transitions.Tie as tie
+use Rattle.nights.proofs.largest.fill_transitions.Statement.{statement}
+use Rattle.nights.proofs.largest.fill_transitions.Tie as tie
 
 abbrev Inv-loop : tie.InvT-loop
 Inv-loop transitions₀ k₀ transitions k = length transitions ≡ length transitions₀

@@ -1,11 +1,11 @@
--- `fill_nodes` ends, and the list keeps its length.
-use mathlib.Core.Path.{_≡_, _∙_}
+-- `fill_untils` ends, and the list keeps its length.
+use mathlib.Core.Path.{_≡_}
 use Prim.Native.Nat.{_-_}
 use lib.ListN.{length}
-use borrow.Author.Needs.{needs}
 use Rattle.kripke.specs.Limits.{mostNodes}
-use Rattle.nights.proofs.fill_nodes.Statement.{statement}
-use Rattle.nights.proofs.fill_nodes.Tie as tie
+use borrow.Author.Needs.{needs}
+use Rattle.nights.proofs.largest.fill_untils.Statement.{statement}
+use Rattle.nights.proofs.largest.fill_untils.Tie as tie
 
 abbrev Inv-loop : tie.InvT-loop
 Inv-loop nodes₀ i₀ nodes i = length nodes ≡ length nodes₀
@@ -16,8 +16,8 @@ abbrev μ-loop : tie.MeasureT-loop
 loop-holds : tie.Need-loop-holds Inv-loop μ-loop
 loop-holds c = search needs
 
-set-node-requires : tie.Need-set-node-requires Inv-loop μ-loop
-set-node-requires c κs = search needs
+set-until-requires : tie.Need-set-until-requires Inv-loop μ-loop
+set-until-requires c κs = search needs
 
 add-i : tie.Need-add-i Inv-loop μ-loop
 add-i c = search needs
@@ -26,7 +26,7 @@ loop-less : tie.Need-loop-less Inv-loop μ-loop
 loop-less c = search needs
 
 loop-again : tie.Need-loop-again Inv-loop μ-loop
-loop-again c = c .before .before .set-node .kept .0 ∙ c .before .before .before .before .before .loop .inv
+loop-again c = search needs
 
 same-length : tie.Need-same-length Inv-loop μ-loop
 same-length c = search needs
@@ -34,14 +34,14 @@ same-length c = search needs
 returns : tie.Need-returns Inv-loop μ-loop
 returns c = search needs
 
-pub fill-nodes-spec : {M : Type 1} → statement M
-fill-nodes-spec =
+pub fill-untils-spec : {M : Type 1} → statement M
+fill-untils-spec =
     tie.close
     (tie.spec
     Inv-loop
     μ-loop
     loop-holds
-    set-node-requires
+    set-until-requires
     add-i
     loop-less
     loop-again

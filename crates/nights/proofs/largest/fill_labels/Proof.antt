@@ -4,8 +4,8 @@ use Prim.Native.Nat.{_-_, _≤_}
 use native.Mathlib.Omega.{arith}
 use lib.ListN.{length, length-set}
 use borrow.Author.Needs.{needs}
-use Rattle.nights.proofs.fill_labels.Statement.{statement}
-use Rattle.nights.proofs.fill_labels.Tie as tie
+use Rattle.nights.proofs.largest.fill_labels.Statement.{statement}
+use Rattle.nights.proofs.largest.fill_labels.Tie as tie
 
 abbrev Inv-loop : tie.InvT-loop
 Inv-loop labels₀ i₀ labels i = (i ≤ length labels) × (length labels ≡ length labels₀)
