@@ -1,4 +1,4 @@
-// Judging asked: a night that is given whole, and the base model with one change.
+// Judging asked: a night that is given whole, and the base model with a change or two.
 use crate::base;
 use crate::change;
 use crate::change::Call;

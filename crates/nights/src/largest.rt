@@ -2,7 +2,6 @@
 use crate::asking;
 use crate::base;
 use crate::judging;
-use crate::reading;
 use crate::spaces::set_byte;
 use crate::spaces::set_number;
 use kripke::limits::MOST_ATOMS;
@@ -100,7 +99,7 @@ pub(crate) fn largest() {
         &nodes,
     );
     let call = base::of(MOST_STATES, 2, MOST_TRANSITIONS, MOST_NODES);
-    reading::printed(b"largest", call, &labels, &initial, &transitions, &nodes);
+    judging::both(b"largest", call, &labels, &initial, &transitions, &nodes);
 }
 
 // The same states and transitions asked for paths: from state 0 three states on at each step, and no other way.

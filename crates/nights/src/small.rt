@@ -9,87 +9,40 @@ use kripke::limits::MOST_NODE_NUMBERS;
 use kripke::limits::MOST_STATES;
 use kripke::limits::MOST_TRANSITION_NUMBERS;
 
-// Cases 2 to 6 of the nights: the readings that sank others.
+// The kinds of E(left U right) and A(left U right).
+const E: u16 = 5;
+
+const A: u16 = 6;
+
+// Transitions 0 to 0, 0 to 1 and 1 to 1; left is true everywhere.
+fn fork(name: &[u8], right: &[u8], until: u16) {
+    let transitions = [0u16, 0, 0, 1, 1, 1];
+    let nodes = [0u16, 0, 0, 1, 0, 0, until, 0, 1];
+    night(name, 2, 1, right, &[1, 0], &transitions, &nodes);
+}
+
+// Two states and two atoms, left and right.
+fn pair(name: &[u8], labels: &[u8], transitions: &[u16], until: u16) {
+    let nodes = [1u16, 0, 0, 1, 1, 0, until, 0, 1];
+    night(name, 2, 2, labels, &[1, 0], transitions, &nodes);
+}
+
+// Cases 2 to 6: the readings that sank others.
 pub(crate) fn nights() {
     // not(p and not p) of an unknown p is unknown, though true in both completions
-    night(
-        b"2",
-        1,
-        1,
-        &[1],
-        &[1],
-        &[0, 0],
-        &[1, 0, 0, 2, 0, 0, 3, 0, 1, 2, 2, 0],
-    );
+    let nodes = [1u16, 0, 0, 2, 0, 0, 3, 0, 1, 2, 2, 0];
+    night(b"2", 1, 1, &[1], &[1], &[0, 0], &nodes);
     // E true and A false at 0
-    let fork = [0u16, 0, 0, 1, 1, 1];
-    night(
-        b"3 E",
-        2,
-        1,
-        &[0, 2],
-        &[1, 0],
-        &fork,
-        &[0, 0, 0, 1, 0, 0, 5, 0, 1],
-    );
-    night(
-        b"3 A",
-        2,
-        1,
-        &[0, 2],
-        &[1, 0],
-        &fork,
-        &[0, 0, 0, 1, 0, 0, 6, 0, 1],
-    );
+    fork(b"3 E", &[0, 2], E);
+    fork(b"3 A", &[0, 2], A);
     // a right part that is unknown marks no state by itself
-    night(
-        b"4 E",
-        2,
-        1,
-        &[1, 2],
-        &[1, 0],
-        &fork,
-        &[0, 0, 0, 1, 0, 0, 5, 0, 1],
-    );
-    night(
-        b"4 A",
-        2,
-        1,
-        &[1, 2],
-        &[1, 0],
-        &fork,
-        &[0, 0, 0, 1, 0, 0, 6, 0, 1],
-    );
+    fork(b"4 E", &[1, 2], E);
+    fork(b"4 A", &[1, 2], A);
     // a left part that is not true is not false yet
-    let line = [0u16, 1, 1, 1];
-    night(
-        b"5 E",
-        2,
-        2,
-        &[1, 0, 0, 2],
-        &[1, 0],
-        &line,
-        &[1, 0, 0, 1, 1, 0, 5, 0, 1],
-    );
-    night(
-        b"5 A",
-        2,
-        2,
-        &[1, 0, 0, 2],
-        &[1, 0],
-        &line,
-        &[1, 0, 0, 1, 1, 0, 6, 0, 1],
-    );
+    pair(b"5 E", &[1, 0, 0, 2], &[0, 1, 1, 1], E);
+    pair(b"5 A", &[1, 0, 0, 2], &[0, 1, 1, 1], A);
     // right need not hold ever after
-    night(
-        b"6 E",
-        2,
-        2,
-        &[2, 0, 0, 2],
-        &[1, 0],
-        &[0, 1, 1, 0],
-        &[1, 0, 0, 1, 1, 0, 5, 0, 1],
-    );
+    pair(b"6 E", &[2, 0, 0, 2], &[0, 1, 1, 0], E);
 }
 
 // The seven states of case 11 with the first n nodes.

@@ -79,7 +79,7 @@ fn asked(name: &[u8], text: &[u8]) {
     reading::asked(name, text, base::lent());
 }
 
-// 19 for a line that is not in the form.
+// 19 for a text that ends too early or too late, a key or a number that is not in the form.
 fn lines() {
     based(b"no text", Length::Bytes(0), Change::Nothing);
     based(
@@ -99,6 +99,10 @@ fn lines() {
     asked(b"a leading zero", b"states=04\n");
     asked(b"65536", b"states=65536\n");
     asked(b"a carriage return", b"states=4\r\n");
+}
+
+// 19 for a row that is not in the form.
+fn rows() {
     asked(b"init too short", b"states=2\natoms=0\ninit=1\n");
     asked(b"init too long", b"states=1\natoms=0\ninit=10\n");
     asked(b"init with a 2", b"states=1\natoms=0\ninit=2\n");
@@ -118,6 +122,10 @@ fn counts() {
     asked(b"no state, then a break", b"states=0\nx");
     asked(b"65535 atoms, then a break", b"states=1\natoms=65535\nx");
     asked(b"65535 atoms, no line feed", b"states=1\natoms=65535");
+}
+
+// The same for the counts behind the labels, and a line of too many or too few numbers.
+fn lists() {
     asked(
         b"no edge, then a break",
         b"states=1\natoms=0\ninit=1\nlabel=\nedges=0\nx",
@@ -147,5 +155,7 @@ fn counts() {
 pub(crate) fn texts() {
     lengths();
     lines();
+    rows();
     counts();
+    lists();
 }
