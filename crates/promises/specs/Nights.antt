@@ -36,7 +36,7 @@ modelIn m = modelOf (m .labelled .states) (m .labelled .atoms) (m .labelled .lab
 
 -- the sheet of a model that is judged
 abbrev pub sheetIn : form.Model → Sheet
-sheetIn m = record { number = 0; states = m .labelled .states; nodes = m .nodes .count; model = verdict (modelVerdict (modelIn m) (m .labelled .initial) (m .nodes .numbers)) }
+sheetIn m = record { number = 0; states = m .labelled .states; transitions = m .transitions .count; nodes = m .nodes .count; model = verdict (modelVerdict (modelIn m) (m .labelled .initial) (m .nodes .numbers)) }
 
 -- the text reads as m, which judging does not refuse, and the answer of its rows is printed as out
 pub record Printed (text out : List ℕ) (m : form.Model) : Type 0 where

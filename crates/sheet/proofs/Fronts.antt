@@ -49,7 +49,7 @@ judged-model {S = S} {A = A} {E = E} {N = N} p e j = record { answer = read.Mode
 judges-one : (answer : Read) (lent : Tables) (before after after′ : List ℕ) (r r′ : Sheet) → Judges answer lent before after r → Judges answer lent before after′ r′ → (r ≡ r′) × (after ≡ after′)
 judges-one (read.Model S A E N) lent before after after′ r r′ p q =
     let same = judging-one _ _ _ _ _ _ _ _ _ _ _ (p .judging) (q .judging) in
-    (p .sheet ∙ ap (sheetOf S N) (same .0) ∙ sym (q .sheet), same .1)
+    (p .sheet ∙ ap (sheetOf S E N) (same .0) ∙ sym (q .sheet), same .1)
 judges-one (read.Refused n) lent before after after′ r r′ p q = (p .0 ∙ sym (q .0), p .1 ∙ sym (q .1))
 
 pub text-judged-one : (text : List ℕ) (lent lent′ lent″ : Tables) (before after after′ : List ℕ) (r r′ : Sheet)

@@ -74,20 +74,20 @@ rows-shown S space j (suc n) (row ∷ rows) e each =
     let rest = rows-shown S space (suc j) n rows (omega arith) (λ i h. let s : suc j + i ≡ j + suc i = omega arith in ap (rowAt S space) s ∙ each (suc i) (omega arith)) in
     cc
 
-number-of : (S N : ℕ) (a : Judged) → numberOf a ≡ sheetOf S N a .number
+number-of : (S E N : ℕ) (a : Judged) → numberOf a ≡ sheetOf S E N a .number
 unfolding numberOf
-number-of S N (judged.Verdicts v) = refl
-number-of S N (judged.Refused n) = refl
+number-of S E N (judged.Verdicts v) = refl
+number-of S E N (judged.Refused n) = refl
 
-module _ (S A N : ℕ) (labels initial es ns before after : List ℕ) (r : Sheet) (a : Judged) (p : Judging S A labels initial es ns before after a) (sheet : r ≡ sheetOf S N a) (accepted : r .number ≡ 0) where
+module _ (S A E N : ℕ) (labels initial es ns before after : List ℕ) (r : Sheet) (a : Judged) (p : Judging S A labels initial es ns before after a) (sheet : r ≡ sheetOf S E N a) (accepted : r .number ≡ 0) where
   none-refused : judgeRefusal S A labels initial es ns (length before) ≡ 0
-  none-refused = sym (judging-number S A labels initial es ns before after a p) ∙ number-of S N a ∙ ap (λ (x : Sheet). x .number) (sym sheet) ∙ accepted
+  none-refused = sym (judging-number S A labels initial es ns before after a p) ∙ number-of S E N a ∙ ap (λ (x : Sheet). x .number) (sym sheet) ∙ accepted
 
-  sheet-shown : r ≡ record { number = 0; states = S; nodes = N; model = verdict (modelVerdict (modelOf S A labels es) initial ns) }
+  sheet-shown : r ≡ record { number = 0; states = S; transitions = E; nodes = N; model = verdict (modelVerdict (modelOf S A labels es) initial ns) }
   unfolding judgedAs
   sheet-shown =
       let given : a ≡ judged.Verdicts (verdict (modelVerdict (modelOf S A labels es) initial ns)) = p .answer ∙ rw none-refused in
-      sheet ∙ ap (sheetOf S N) given
+      sheet ∙ ap (sheetOf S E N) given
 
   space-shown : after ≡ spaceWith (rowsOf (modelOf S A labels es) ns) before
   space-shown = p .space ∙ rw none-refused
@@ -115,4 +115,4 @@ answer-shown text lent lent′ S A E N before after r reading p accepted =
     let few : N ≤ mostNodes = let n : N ≡ held .held .nodes .count = cc (held .counts) in omega (arith, held .printable .nodes .count .most) in
     let size : length (take (3 * N) (lent′ .nodes)) ≡ 3 * N = length-take-le _ _ (fronts-fit text lent lent′ S A E N reading .nodes) in
     let count : nodeCount (take (3 * N) (lent′ .nodes)) ≡ N = omega arith in
-    output-shown S A N _ _ _ _ before after r (p .answer) (p .judging) (p .sheet) accepted count few
+    output-shown S A E N _ _ _ _ before after r (p .answer) (p .judging) (p .sheet) accepted count few

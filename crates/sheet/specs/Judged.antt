@@ -14,18 +14,18 @@ use Rattle.sheet.specs.declared.Sheet.{Sheet}
 
 -- a refusal: its number, and zeros
 abbrev pub refusedSheet : ℕ → Sheet
-refusedSheet n = record { number = n; states = 0; nodes = 0; model = verdict 0 }
+refusedSheet n = record { number = n; states = 0; transitions = 0; nodes = 0; model = verdict 0 }
 
--- what judging S states and N nodes answered: 0 and the model's verdict, or the number of the refusal
-abbrev pub sheetOf : ℕ → ℕ → Judged → Sheet
-sheetOf S N (judged.Verdicts v) = record { number = 0; states = S; nodes = N; model = v }
-sheetOf S N (judged.Refused n) = refusedSheet n
+-- what judging S states, E transitions and N nodes answered: 0 and the model's verdict, or the number of the refusal
+abbrev pub sheetOf : ℕ → ℕ → ℕ → Judged → Sheet
+sheetOf S E N (judged.Verdicts v) = record { number = 0; states = S; transitions = E; nodes = N; model = v }
+sheetOf S E N (judged.Refused n) = refusedSheet n
 
 -- the model of S states, A atoms, E transitions and N nodes in the fronts of the tables was judged into the verdict space
 pub record FrontsJudged (S A E N : ℕ) (lent : Tables) (before after : List ℕ) (r : Sheet) : Type 0 where
   pub answer : Judged
   pub judging : Judging S A (take (S * A) (lent .labels)) (take S (lent .initial)) (take (2 * E) (lent .transitions)) (take (3 * N) (lent .nodes)) before after answer
-  pub sheet : r ≡ sheetOf S N answer
+  pub sheet : r ≡ sheetOf S E N answer
 
 -- by reading's answer: a model is judged; a refusal is handed on, and the verdict space stays
 abbrev pub Judges : Read → Tables → List ℕ → List ℕ → Sheet → Type 0

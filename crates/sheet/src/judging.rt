@@ -14,19 +14,21 @@ pub(crate) fn refused(number: u8) -> Sheet
     Sheet {
         number,
         states: 0,
+        transitions: 0,
         nodes: 0,
         model: Verdict::FALSE,
     }
 }
 
 // The sheet of what judging answered.
-fn sheet_of(states: usize, nodes: usize, answer: Judged) -> Sheet
-    ensures { λ r. ⌜ r ≡ sheetOf states nodes answer ⌝ }
+fn sheet_of(states: usize, transitions: usize, nodes: usize, answer: Judged) -> Sheet
+    ensures { λ r. ⌜ r ≡ sheetOf states transitions nodes answer ⌝ }
 {
     match answer {
         Judged::Verdicts(model) => Sheet {
             number: 0,
             states,
+            transitions,
             nodes,
             model,
         },
@@ -62,5 +64,5 @@ pub(crate) fn judge_fronts(
         &nodes[..nodes_end],
         verdicts,
     );
-    sheet_of(s, n, answer)
+    sheet_of(s, e, n, answer)
 }

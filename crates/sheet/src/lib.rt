@@ -22,6 +22,7 @@ ghost use Rattle.sheet.specs.Output.{output, lineAt, LinePut};
 pub struct Sheet {
     pub number: u8,
     pub states: usize,
+    pub transitions: usize,
     pub nodes: usize,
     pub model: Verdict,
 }

@@ -1,0 +1,129 @@
+// The question put to a model: its text is judged, and the rows are those of the node's own two parts.
+use crate::listing;
+use kripke::limits::MOST_LABELS;
+use kripke::limits::MOST_NODE_NUMBERS;
+use kripke::limits::MOST_NODES;
+use kripke::limits::MOST_STATES;
+use kripke::limits::MOST_TRANSITION_NUMBERS;
+use kripke::limits::MOST_TRANSITIONS;
+use kripke::limits::MOST_VERDICTS;
+use sheet::Sheet;
+
+// The kind of an exists-until.
+const EXISTS_UNTIL: u16 = 5;
+
+// The row of a node; where the verdict space has none, an empty list, which First refuses.
+fn row(states: usize, verdicts: &[u8], node: usize) -> &[u8] {
+    if MOST_STATES < states {
+        return &verdicts[..0];
+    }
+    if MOST_NODES <= node {
+        return &verdicts[..0];
+    }
+    let size = kripke::rows::row_size(states);
+    let begin = node * size;
+    let end = begin + size;
+    if verdicts.len() < end {
+        return &verdicts[..0];
+    }
+    &verdicts[begin..end]
+}
+
+// The transitions that were read, at the front of their table.
+fn transitions_read(transitions: &[u16], count: usize) -> &[u16] {
+    if MOST_TRANSITIONS < count {
+        return &transitions[..0];
+    }
+    let end = 2 * count;
+    if transitions.len() < end {
+        return &transitions[..0];
+    }
+    &transitions[..end]
+}
+
+// The three numbers of a node that there is.
+fn ask(
+    sheet: Sheet,
+    transitions: &[u16],
+    kind: u16,
+    left: u16,
+    right: u16,
+    verdicts: &[u8],
+    start: usize,
+    level: u8,
+    most: usize,
+) {
+    if kind != EXISTS_UNTIL {
+        listing::put(b"no question: this node is no exists-until\n");
+        return;
+    }
+    listing::paths(
+        sheet.states,
+        transitions_read(transitions, sheet.transitions),
+        row(sheet.states, verdicts, left as usize),
+        row(sheet.states, verdicts, right as usize),
+        level,
+        start,
+        most,
+    );
+}
+
+fn ask_node(
+    sheet: Sheet,
+    transitions: &[u16],
+    nodes: &[u16; MOST_NODE_NUMBERS],
+    verdicts: &[u8],
+    node: usize,
+    start: usize,
+    level: u8,
+    most: usize,
+) {
+    if sheet.nodes <= node {
+        listing::put(b"no question: the model has no such node\n");
+        return;
+    }
+    if MOST_NODES <= node {
+        return;
+    }
+    ask(
+        sheet,
+        transitions,
+        nodes[3 * node],
+        nodes[3 * node + 1],
+        nodes[3 * node + 2],
+        verdicts,
+        start,
+        level,
+        most,
+    );
+}
+
+pub(crate) fn answer(text: &[u8], node: usize, start: usize, level: u8, most: usize) {
+    let mut labels = [0u8; MOST_LABELS];
+    let mut initial = [0u8; MOST_STATES];
+    let mut transitions = [0u16; MOST_TRANSITION_NUMBERS];
+    let mut nodes = [0u16; MOST_NODE_NUMBERS];
+    let mut verdicts = [0u8; MOST_VERDICTS];
+    let sheet = sheet::judge_text(
+        text,
+        &mut labels,
+        &mut initial,
+        &mut transitions,
+        &mut nodes,
+        &mut verdicts,
+    );
+    if sheet.number != 0 {
+        listing::refused(sheet.number);
+        return;
+    }
+    ask_node(
+        sheet,
+        &transitions,
+        &nodes,
+        &verdicts,
+        node,
+        start,
+        level,
+        most,
+    );
+}

@@ -1,0 +1,31 @@
+// One model's text on standard input, a question in the arguments: the shortest witnesses of an exists-until node from a state, one a line.
+//
+//   words     the question, from the arguments
+//   asking    the question put to a model that was judged
+//   listing   path after path, written as it comes
+mod asking;
+mod listing;
+mod words;
+
+use kripke::limits::MOST_TEXT;
+use libc::STDIN_FILENO;
+use words::Question;
+
+fn main() {
+    let Question::Asked {
+        node,
+        start,
+        level,
+        most,
+    } = words::asked()
+    else {
+        listing::put(
+            b"no question: give a node, a state, true or possible, and at most how many paths if not all\n",
+        );
+        return;
+    };
+    // One byte more than a text may have: a longer one is seen to be too long.
+    let mut text = [0u8; MOST_TEXT + 1];
+    let got = io::read_full(STDIN_FILENO, &mut text);
+    asking::answer(&text[..got], node, start, level, most);
+}
