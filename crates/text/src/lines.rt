@@ -29,9 +29,9 @@ impl Cursor {
         let Line::Read(_, _, c) = past else {
             return past;
         };
-        let line = c.number(text, b'\n');
-        let Line::Read(count, _, _) = line else {
-            return line;
+        let counted = c.number(text, b'\n');
+        let Line::Read(count, _, _) = counted else {
+            return counted;
         };
         let n = count as usize;
         if n < least {
@@ -40,7 +40,7 @@ impl Cursor {
         if most < n {
             return Line::Refused(refusal);
         }
-        line
+        counted
     }
 
     // A line key=symbols, n of them, into out from a place on.

@@ -24,8 +24,8 @@ returns c =
 number-requires : tie.Need-number-requires
 number-requires c κs = search needs
 
-enum-known-line : tie.Need-enum-known-line
-enum-known-line c = search needs
+enum-known-counted : tie.Need-enum-known-counted
+enum-known-counted c = search needs
 
 returns-2 : tie.Need-returns-2
 unfolding countLine
@@ -44,7 +44,7 @@ returns-3 c =
     let s = now (c .before .before .before .before .before .before .before .before .before .before .before .args .text) in
     let e = c .before .before .before .before .before .before .before .before .exactly in
     let n = c .before .before .before .before .number in
-    sym (went nothing _ s (e .result) _ (e .ensures) (c .before .before .before .before .before .before .past .given .1) ∙ went first _ s (n .result) _ (n .ensures) (c .before .before .line .given .1)
+    sym (went nothing _ s (e .result) _ (e .ensures) (c .before .before .before .before .before .before .past .given .1) ∙ went first _ s (n .result) _ (n .ensures) (c .before .before .counted .given .1)
     ∙ simp (lt-leb _ _ (c .if1 .taken)))
 
 returns-4 : tie.Need-returns-4
@@ -53,7 +53,7 @@ returns-4 c =
     let s = now (c .before .before .before .before .before .before .before .before .before .before .before .before .args .text) in
     let e = c .before .before .before .before .before .before .before .before .before .exactly in
     let n = c .before .before .before .before .before .number in
-    sym (went nothing _ s (e .result) _ (e .ensures) (c .before .before .before .before .before .before .before .past .given .1) ∙ went first _ s (n .result) _ (n .ensures) (c .before .before .before .line .given .1)
+    sym (went nothing _ s (e .result) _ (e .ensures) (c .before .before .before .before .before .before .before .past .given .1) ∙ went first _ s (n .result) _ (n .ensures) (c .before .before .before .counted .given .1)
     ∙ simp (le-leb _ _ (c .before .if1 .left), lt-leb _ _ (c .if2 .taken)))
 
 returns-5 : tie.Need-returns-5
@@ -62,7 +62,7 @@ returns-5 c =
     let s = now (c .before .before .before .before .before .before .before .before .before .before .before .before .args .text) in
     let e = c .before .before .before .before .before .before .before .before .before .exactly in
     let n = c .before .before .before .before .before .number in
-    sym (went nothing _ s (e .result) _ (e .ensures) (c .before .before .before .before .before .before .before .past .given .1) ∙ went first _ s (n .result) _ (n .ensures) (c .before .before .before .line .given .1)
+    sym (went nothing _ s (e .result) _ (e .ensures) (c .before .before .before .before .before .before .before .past .given .1) ∙ went first _ s (n .result) _ (n .ensures) (c .before .before .before .counted .given .1)
     ∙ simp (le-leb _ _ (c .before .if1 .left), le-leb _ _ (c .if2 .left)))
 
 pub count-line-spec : {M : Type 1} → statement M
@@ -73,7 +73,7 @@ count-line-spec =
     enum-known-past
     returns
     number-requires
-    enum-known-line
+    enum-known-counted
     returns-2
     cast-n
     returns-3
