@@ -25,3 +25,8 @@ judging-number S A labels initial es ns before after r p = ap numberOf (p .answe
     go : (n v : ℕ) → numberOf (judgedAs n v) ≡ n
     go zero v = refl
     go (suc n) v = rw (ne-eqb (suc n) 0 (λ e. omega arith))
+
+-- a refusal leaves the verdict space
+pub judging-keeps : (S A : ℕ) (labels initial es ns before after : List ℕ) (r : Judged) → Judging S A labels initial es ns before after r → (numberOf r ≡ 0 → ⊥) → after ≡ before
+judging-keeps S A labels initial es ns before after r p h =
+    p .space ∙ rw (ne-eqb (judgeRefusal S A labels initial es ns (length before)) 0 (λ z. h (judging-number S A labels initial es ns before after r p ∙ z)))

@@ -1,11 +1,7 @@
 // One model's text on standard input, its whole answer on standard output.
 use answer::MOST_LINE;
-use kripke::limits::MOST_LABELS;
-use kripke::limits::MOST_NODE_NUMBERS;
 use kripke::limits::MOST_NODES;
-use kripke::limits::MOST_STATES;
 use kripke::limits::MOST_TEXT;
-use kripke::limits::MOST_TRANSITION_NUMBERS;
 use kripke::limits::MOST_VERDICTS;
 use libc::STDIN_FILENO;
 use libc::STDOUT_FILENO;
@@ -29,18 +25,7 @@ fn main() {
     // One byte more than a text may have: a longer one is seen to be too long.
     let mut text = [0u8; MOST_TEXT + 1];
     let got = io::read_full(STDIN_FILENO, &mut text);
-    let mut labels = [0u8; MOST_LABELS];
-    let mut initial = [0u8; MOST_STATES];
-    let mut transitions = [0u16; MOST_TRANSITION_NUMBERS];
-    let mut nodes = [0u16; MOST_NODE_NUMBERS];
     let mut verdicts = [0u8; MOST_VERDICTS];
-    let sheet = sheet::judge_text(
-        &text[..got],
-        &mut labels,
-        &mut initial,
-        &mut transitions,
-        &mut nodes,
-        &mut verdicts,
-    );
+    let sheet = sheet::judge_text(&text[..got], &mut verdicts);
     write_answer(sheet, &verdicts);
 }

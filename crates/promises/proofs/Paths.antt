@@ -18,7 +18,7 @@ use Rattle.lists.specs.Causes.{Given, cause, refusalOf}
 use Rattle.paths.specs.Answers.{FirstPromise}
 use Rattle.paths.specs.Questions.{Question, Witnessed, asked}
 use Rattle.paths.specs.Refusals.{FirstApplies, badLevel, firstCauses}
-use Rattle.promises.specs.Paths.{ChainIsBeginning, EndAgain, EveryShortestPath, FewEnough, FirstExactly, OnePathAnswer, RoomEnough, rowIn}
+use Rattle.promises.specs.Paths.{ChainIsBeginning, EndAgain, EveryShortestPath, FewEnough, FirstExactly, OnePathAnswer, PathRefusalKeeps, RoomEnough, rowIn}
 use Rattle.promises.specs.Verdicts.{held}
 use Rattle.ctl.proofs.JudgeLaws.{judge-fine, operand-row-held, until-held}
 use Rattle.ctl.proofs.OneAnswer.{judging-number}
@@ -52,6 +52,9 @@ roomEnough q start = (shortest-few q start, never-16 q start)
 
 pub fewEnough : FewEnough
 fewEnough = few-enough
+
+pub pathRefusalKeeps : PathRefusalKeeps
+pathRefusalKeeps = (λ q start before after n p. p .says .untouched, λ q before after n p. p .says .untouched)
 
 pub onePathAnswer : OnePathAnswer
 onePathAnswer = (first-one, next-one, check-one)

@@ -1,10 +1,11 @@
 -- Demand 1 for text, cited from the crates that prove it.
-use Rattle.promises.specs.Text.{TextRefusalKeeps, TextNumber, TextNumbers, FormIsPrint, PrintIsRead, ReadIsPrint, OneReading, OneLine, OneSheet, OneSheetLine}
+use Rattle.promises.specs.Text.{TextRefusalKeeps, TextNumber, TextNumbers, FormIsPrint, PrintIsRead, ReadIsPrint, OneReading, OneLine, OneSheet, OneSheetLine, SheetRefusal, SheetMeaning}
 use Rattle.text.proofs.Promised.{refusal-leaves, well-formed, formed-well, print-read, read-print, one-answer}
 use Rattle.text.proofs.Refusals.{only-these}
 use Rattle.answer.proofs.Promises.{written-one}
 use Rattle.sheet.proofs.Fronts.{text-judged-one}
 use Rattle.sheet.proofs.Output.{line-put-one}
+use Rattle.sheet.proofs.Meaning.{text-keeps, refusal-shown, answer-shown}
 
 pub textRefusalKeeps : TextRefusalKeeps
 textRefusalKeeps = refusal-leaves
@@ -35,3 +36,9 @@ oneSheet = text-judged-one
 
 pub oneSheetLine : OneSheetLine
 oneSheetLine = line-put-one
+
+pub sheetRefusal : SheetRefusal
+sheetRefusal text before after r p h = (text-keeps text before after r p h, refusal-shown r after h)
+
+pub sheetMeaning : SheetMeaning
+sheetMeaning = answer-shown

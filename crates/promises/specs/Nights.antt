@@ -17,6 +17,7 @@ use Rattle.text.specs.Form as form
 use Rattle.text.specs.Promise.{settled, Outcome}
 use Rattle.answer.specs.Promise.{Due}
 use Rattle.sheet.specs.declared.Sheet.{Sheet}
+use Rattle.sheet.specs.Judged.{modelIn}
 use Rattle.sheet.specs.Output.{output}
 
 -- lists one after the other
@@ -30,13 +31,9 @@ bytesOf [] = []
 bytesOf (Due.line bytes ∷ ds) = bytes ++ bytesOf ds
 bytesOf (Due.none ∷ ds) = bytesOf ds
 
--- what a text that was read is judged as
-abbrev pub modelIn : form.Model → Model
-modelIn m = modelOf (m .labelled .states) (m .labelled .atoms) (m .labelled .labels) (m .transitions .numbers)
-
 -- the sheet of a model that is judged
 abbrev pub sheetIn : form.Model → Sheet
-sheetIn m = record { number = 0; states = m .labelled .states; transitions = m .transitions .count; nodes = m .nodes .count; model = verdict (modelVerdict (modelIn m) (m .labelled .initial) (m .nodes .numbers)) }
+sheetIn m = record { number = 0; states = m .labelled .states; nodes = m .nodes .count; model = verdict (modelVerdict (modelIn m) (m .labelled .initial) (m .nodes .numbers)) }
 
 -- the text reads as m, which judging does not refuse, and the answer of its rows is printed as out
 pub record Printed (text out : List ℕ) (m : form.Model) : Type 0 where

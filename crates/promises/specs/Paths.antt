@@ -42,6 +42,10 @@ RoomEnough = (q : Question) (start : ℕ) → ((p : List ℕ) → Shortest q sta
 abbrev pub FewEnough : Type 0
 FewEnough = (q : Question) (start : ℕ) → Witnessed q start ↔ WitnessedWithin q start (q .states)
 
+-- "A refusal changes nothing we lent": neither First's path space nor the list that Next was lent.
+abbrev pub PathRefusalKeeps : Type 0
+PathRefusalKeeps = ((q : Question) (start : ℕ) (before after : List ℕ) (n : ℕ) → FirstPromise q start before after (first.Refused n) → after ≡ before) × ((q : Question) (before after : List ℕ) (n : ℕ) → NextPromise q before after (next.Refused n) → after ≡ before)
+
 -- Any two answers that First, Next or Check may give coincide, and so do the spaces.
 abbrev pub OnePathAnswer : Type 0
 OnePathAnswer = ((q : Question) (start : ℕ) (before after after′ : List ℕ) (a a′ : FirstAnswer) → FirstPromise q start before after a → FirstPromise q start before after′ a′ → (a ≡ a′) × (after ≡ after′)) × ((q : Question) (before after after′ : List ℕ) (a a′ : NextAnswer) → NextPromise q before after a → NextPromise q before after′ a′ → (a ≡ a′) × (after ≡ after′)) × ((q : Question) (path : List ℕ) (a a′ : CheckAnswer) → CheckPromise q path a → CheckPromise q path a′ → a ≡ a′)

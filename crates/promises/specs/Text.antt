@@ -1,22 +1,25 @@
 -- Demand 1, for text: reading it, and writing the answer. What each call promises is named in its own crate.
 use mathlib.Core.Path.{_≡_}
 use Prim.Native.Nat.{ℕ, _≤_}
-use mathlib.Core.List.{List, [], List·Memᴰ}
+use mathlib.Core.List.{List, [], _∷_, List·Memᴰ}
 use mathlib.Core.Bool.{false}
 use mathlib.Core.Logic.{_↔_}
 use lib.ListN.{length}
 use Rattle.kripke.specs.Limits.{mostText}
+use Rattle.ctl.specs.Rows.{rowsOf, modelVerdict}
 use Rattle.text.specs.Readers.{Reading}
 use Rattle.text.specs.Readers.Reading.{found}
 use Rattle.text.specs.Form.{Model, modelText}
 use Rattle.text.specs.Print.{print, Printable, Accepted}
-use Rattle.text.specs.Promise.{Tables, Outcome, anyShort, outcome, numberOf, numberDue, tablesDue, ModelRead, refusals}
+use Rattle.text.specs.Promise.{Tables, Outcome, anyShort, textOutcome, outcome, numberOf, numberDue, tablesDue, ModelRead, refusals}
 use Rattle.text.specs.declared.Read.{Read}
 use Rattle.text.specs.declared.Read.the-variants as read
+use Rattle.answer.specs.Lines.{answerLine}
 use Rattle.answer.specs.Promise.{Due, LineWritten}
+use Rattle.answer.specs.Promise.Due.{line}
 use Rattle.answer.specs.declared.Written.{Written}
-use Rattle.sheet.specs.Judged.{TextJudged}
-use Rattle.sheet.specs.Output.{Place, LinePut}
+use Rattle.sheet.specs.Judged.{modelIn, TextJudged}
+use Rattle.sheet.specs.Output.{Place, LinePut, output, whole}
 use Rattle.sheet.specs.declared.Sheet.{Sheet}
 use Rattle.sheet.specs.declared.Line.{Line}
 
@@ -54,7 +57,16 @@ OneLine = (due : Due) (before after after′ : List ℕ) (r r′ : Written) → 
 
 -- and those of the two calls that the programs share.
 abbrev pub OneSheet : Type 0
-OneSheet = (text : List ℕ) (lent lent′ lent″ : Tables) (before after after′ : List ℕ) (r r′ : Sheet) → TextJudged text lent lent′ before after r → TextJudged text lent lent″ before after′ r′ → (r ≡ r′) × (lent′ ≡ lent″) × (after ≡ after′)
+OneSheet = (text before after after′ : List ℕ) (r r′ : Sheet) → TextJudged text before after r → TextJudged text before after′ r′ → (r ≡ r′) × (after ≡ after′)
 
 abbrev pub OneSheetLine : Type 0
 OneSheetLine = (place : Place) (before after after′ : List ℕ) (r r′ : Line) → LinePut place before after r → LinePut place before after′ r′ → (r ≡ r′) × (after ≡ after′)
+
+-- "A refusal changes nothing we lent": judging a text, the verdict space stays, whether reading or judging refused it. The whole answer is
+-- one line then.
+abbrev pub SheetRefusal : Type 0
+SheetRefusal = (text before after : List ℕ) (r : Sheet) → TextJudged text before after r → (r .number ≡ 0 → ⊥) → (after ≡ before) × (output r after ≡ line (answerLine (r .number)) ∷ [])
+
+-- Otherwise it is the rows of the model's meaning and its verdict, a line each.
+abbrev pub SheetMeaning : Type 0
+SheetMeaning = (text : List ℕ) (m : Model) (before after : List ℕ) (r : Sheet) → textOutcome text ≡ Outcome.model m → TextJudged text before after r → r .number ≡ 0 → output r after ≡ whole (rowsOf (modelIn m) (m .nodes .numbers)) (modelVerdict (modelIn m) (m .labelled .initial) (m .nodes .numbers))

@@ -11,11 +11,8 @@ mod asking;
 mod numbers;
 mod telling;
 
-use kripke::limits::MOST_LABELS;
-use kripke::limits::MOST_NODE_NUMBERS;
 use kripke::limits::MOST_NODES;
 use kripke::limits::MOST_STATES;
-use kripke::limits::MOST_TRANSITION_NUMBERS;
 use kripke::limits::MOST_VERDICTS;
 use libc::STDIN_FILENO;
 use libc::STDOUT_FILENO;
@@ -50,19 +47,8 @@ fn write_lines(sheet: Sheet, verdicts: &[u8]) {
 }
 
 fn model(text: &[u8]) {
-    let mut labels = [0u8; MOST_LABELS];
-    let mut initial = [0u8; MOST_STATES];
-    let mut transitions = [0u16; MOST_TRANSITION_NUMBERS];
-    let mut nodes = [0u16; MOST_NODE_NUMBERS];
     let mut verdicts = [0u8; MOST_VERDICTS];
-    let sheet = sheet::judge_text(
-        text,
-        &mut labels,
-        &mut initial,
-        &mut transitions,
-        &mut nodes,
-        &mut verdicts,
-    );
+    let sheet = sheet::judge_text(text, &mut verdicts);
     write_lines(sheet, &verdicts);
 }
 

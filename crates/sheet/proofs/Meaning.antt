@@ -1,14 +1,13 @@
 -- What is written of a model that was judged: the rows of its nodes by their meaning, each with a line, and the model's verdict.
-use Prim.Native.Nat.{ℕ, zero, suc, _+_, _*_, _≤_, _<_}
-use mathlib.Core.Path.{_≡_, refl, ap, sym, _∙_}
+use Prim.Native.Nat.{ℕ, zero, suc, _+_, _≤_, _<_}
+use mathlib.Core.Path.{_≡_, refl, ap, sym, subst, _∙_}
 use mathlib.Core.List.{List, [], _∷_, map}
 use mathlib.Core.Bool.{Bool, true, false, cond, not, _&&_}
 use native.Mathlib.Omega.{arith}
 use native.Mathlib.Nat.{add-zero, zero-add}
 use lib.ListN.{length, getD, take, drop}
-use lib.Seq.{length-take-le}
 use lib.Dec.{leb}
-use borrow.Author.Tests.{lt-ltb, le-leb}
+use borrow.Author.Tests.{lt-ltb, le-leb, ne-eqb}
 use Rattle.lists.specs.Entries.{anyBelow}
 use Rattle.lists.proofs.Tests.{and-both}
 use Rattle.kripke.specs.Values.{top}
@@ -24,17 +23,17 @@ use Rattle.ctl.specs.declared.Judged.the-variants as judged
 use Rattle.ctl.proofs.JudgeLaws.{judge-fine, judgeable}
 use Rattle.ctl.proofs.FineRows.{rows-held}
 use Rattle.ctl.proofs.NodeLists.{rows-count, rows-whole}
-use Rattle.ctl.proofs.OneAnswer.{judging-number}
-use Rattle.text.specs.Promise.{Tables, ModelRead}
-use Rattle.text.specs.declared.Read.the-variants as read
-use Rattle.text.proofs.Promised.{read-print}
-use Rattle.answer.specs.Lines.{rowLine, modelLine}
+use Rattle.ctl.proofs.OneAnswer.{judging-number, judging-keeps}
+use Rattle.text.specs.Form.{Model}
+use Rattle.text.specs.Promise.{Outcome, textOutcome}
+use Rattle.text.specs.Promise.Outcome.{model, refusal}
+use Rattle.text.proofs.Promised.{outcome-printable}
+use Rattle.answer.specs.Lines.{answerLine, rowLine, modelLine}
 use Rattle.answer.specs.Promise.{lineIf, modelDue}
 use Rattle.answer.specs.Promise.Due.{line}
 use Rattle.sheet.specs.declared.Sheet.{Sheet}
-use Rattle.sheet.specs.Judged.{sheetOf, FrontsJudged}
+use Rattle.sheet.specs.Judged.{sheetOf, modelIn, ModelJudged, Judges, TextJudged}
 use Rattle.sheet.specs.Output.{rowAt, rowsFrom, output, whole}
-use Rattle.sheet.proofs.Fronts.{fronts-fit}
 
 -- a model's verdict is one of the three values
 verdict-small : (a b : Bool) → cond a 1 (cond b 0 2) ≤ top
@@ -74,20 +73,20 @@ rows-shown S space j (suc n) (row ∷ rows) e each =
     let rest = rows-shown S space (suc j) n rows (omega arith) (λ i h. let s : suc j + i ≡ j + suc i = omega arith in ap (rowAt S space) s ∙ each (suc i) (omega arith)) in
     cc
 
-number-of : (S E N : ℕ) (a : Judged) → numberOf a ≡ sheetOf S E N a .number
+number-of : (S N : ℕ) (a : Judged) → numberOf a ≡ sheetOf S N a .number
 unfolding numberOf
-number-of S E N (judged.Verdicts v) = refl
-number-of S E N (judged.Refused n) = refl
+number-of S N (judged.Verdicts v) = refl
+number-of S N (judged.Refused n) = refl
 
-module _ (S A E N : ℕ) (labels initial es ns before after : List ℕ) (r : Sheet) (a : Judged) (p : Judging S A labels initial es ns before after a) (sheet : r ≡ sheetOf S E N a) (accepted : r .number ≡ 0) where
+module _ (S A N : ℕ) (labels initial es ns before after : List ℕ) (r : Sheet) (a : Judged) (p : Judging S A labels initial es ns before after a) (sheet : r ≡ sheetOf S N a) (accepted : r .number ≡ 0) where
   none-refused : judgeRefusal S A labels initial es ns (length before) ≡ 0
-  none-refused = sym (judging-number S A labels initial es ns before after a p) ∙ number-of S E N a ∙ ap (λ (x : Sheet). x .number) (sym sheet) ∙ accepted
+  none-refused = sym (judging-number S A labels initial es ns before after a p) ∙ number-of S N a ∙ ap (λ (x : Sheet). x .number) (sym sheet) ∙ accepted
 
-  sheet-shown : r ≡ record { number = 0; states = S; transitions = E; nodes = N; model = verdict (modelVerdict (modelOf S A labels es) initial ns) }
+  sheet-shown : r ≡ record { number = 0; states = S; nodes = N; model = verdict (modelVerdict (modelOf S A labels es) initial ns) }
   unfolding judgedAs
   sheet-shown =
       let given : a ≡ judged.Verdicts (verdict (modelVerdict (modelOf S A labels es) initial ns)) = p .answer ∙ rw none-refused in
-      sheet ∙ ap (sheetOf S E N) given
+      sheet ∙ ap (sheetOf S N) given
 
   space-shown : after ≡ spaceWith (rowsOf (modelOf S A labels es) ns) before
   space-shown = p .space ∙ rw none-refused
@@ -105,14 +104,23 @@ module _ (S A E N : ℕ) (labels initial es ns before after : List ℕ) (r : She
       ap (λ (x : Sheet). output x after) sheet-shown ∙ cc
 
 -- of a text that was read and judged without a refusal, the whole answer is that of the meaning's rows and verdict, a line each
-pub answer-shown : (text : List ℕ) (lent lent′ : Tables) (S A E N : ℕ) (before after : List ℕ) (r : Sheet) → ModelRead text lent lent′ (read.Model S A E N)
-    → FrontsJudged S A E N lent′ before after r → r .number ≡ 0
-    → let m = modelOf S A (take (S * A) (lent′ .labels)) (take (2 * E) (lent′ .transitions)) in
-    let ns = take (3 * N) (lent′ .nodes) in
-    output r after ≡ whole (rowsOf m ns) (modelVerdict m (take S (lent′ .initial)) ns)
-answer-shown text lent lent′ S A E N before after r reading p accepted =
-    let held = read-print text lent lent′ S A E N reading in
-    let few : N ≤ mostNodes = let n : N ≡ held .held .nodes .count = cc (held .counts) in omega (arith, held .printable .nodes .count .most) in
-    let size : length (take (3 * N) (lent′ .nodes)) ≡ 3 * N = length-take-le _ _ (fronts-fit text lent lent′ S A E N reading .nodes) in
-    let count : nodeCount (take (3 * N) (lent′ .nodes)) ≡ N = omega arith in
-    output-shown S A E N _ _ _ _ before after r (p .answer) (p .judging) (p .sheet) accepted count few
+pub answer-shown : (text : List ℕ) (m : Model) (before after : List ℕ) (r : Sheet) → textOutcome text ≡ model m → TextJudged text before after r → r .number ≡ 0
+    → output r after ≡ whole (rowsOf (modelIn m) (m .nodes .numbers)) (modelVerdict (modelIn m) (m .labelled .initial) (m .nodes .numbers))
+answer-shown text m before after r e j accepted =
+    let p : ModelJudged m before after r = subst (λ (o : Outcome). Judges o before after r) e j in
+    let good = outcome-printable text m e .nodes in
+    let count : nodeCount (m .nodes .numbers) ≡ m .nodes .count = omega (arith, good .numbers .size) in
+    output-shown (m .labelled .states) (m .labelled .atoms) (m .nodes .count) _ _ _ _ before after r (p .answer) (p .judging) (p .sheet) accepted count (good .count .most)
+
+-- of any other text it is the number alone, and the verdict space stays
+refused-keeps : (o : Outcome) (before after : List ℕ) (r : Sheet) → Judges o before after r → (r .number ≡ 0 → ⊥) → after ≡ before
+refused-keeps (refusal n) before after r p h = p .1
+refused-keeps (model m) before after r p h =
+    judging-keeps _ _ _ _ _ _ before after (p .answer) (p .judging) (λ z. h (ap (λ (x : Sheet). x .number) (p .sheet) ∙ sym (number-of _ _ (p .answer)) ∙ z))
+
+pub text-keeps : (text before after : List ℕ) (r : Sheet) → TextJudged text before after r → (r .number ≡ 0 → ⊥) → after ≡ before
+text-keeps text = refused-keeps (textOutcome text)
+
+pub refusal-shown : (r : Sheet) (space : List ℕ) → (r .number ≡ 0 → ⊥) → output r space ≡ line (answerLine (r .number)) ∷ []
+unfolding output
+refusal-shown r space h = rw (ne-eqb (r .number) 0 h)

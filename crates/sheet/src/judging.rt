@@ -4,8 +4,8 @@ use ctl::Judged;
 use kripke::values::Verdict;
 ghost use mathlib.Core.Path.{_≡_};
 ghost use Rattle.text.specs.Promise.{tables};
-ghost use Rattle.sheet.specs.Judged.{refusedSheet, sheetOf, FrontsJudged};
-ghost use Rattle.sheet.specs.Inside.{FrontsFit};
+ghost use Rattle.sheet.specs.Judged.{refusedSheet, sheetOf};
+ghost use Rattle.sheet.specs.Inside.{FrontsFit, FrontsJudged};
 
 // The sheet of a refusal.
 pub(crate) fn refused(number: u8) -> Sheet
@@ -14,21 +14,19 @@ pub(crate) fn refused(number: u8) -> Sheet
     Sheet {
         number,
         states: 0,
-        transitions: 0,
         nodes: 0,
         model: Verdict::FALSE,
     }
 }
 
 // The sheet of what judging answered.
-fn sheet_of(states: usize, transitions: usize, nodes: usize, answer: Judged) -> Sheet
-    ensures { λ r. ⌜ r ≡ sheetOf states transitions nodes answer ⌝ }
+fn sheet_of(states: usize, nodes: usize, answer: Judged) -> Sheet
+    ensures { λ r. ⌜ r ≡ sheetOf states nodes answer ⌝ }
 {
     match answer {
         Judged::Verdicts(model) => Sheet {
             number: 0,
             states,
-            transitions,
             nodes,
             model,
         },
@@ -64,5 +62,5 @@ pub(crate) fn judge_fronts(
         &nodes[..nodes_end],
         verdicts,
     );
-    sheet_of(s, e, n, answer)
+    sheet_of(s, n, answer)
 }

@@ -4,6 +4,10 @@
 //   lines     one line of the answer
 //
 // specs/Judged says what `judge_text` promises, specs/Output what `write_line` does.
+use kripke::limits::MOST_LABELS;
+use kripke::limits::MOST_NODE_NUMBERS;
+use kripke::limits::MOST_STATES;
+use kripke::limits::MOST_TRANSITION_NUMBERS;
 use kripke::values::Verdict;
 use text::Read;
 
@@ -14,7 +18,6 @@ use judging::judge_fronts;
 use judging::refused;
 use lines::line_of;
 use lines::write_row_at;
-ghost use Rattle.text.specs.Promise.{tables};
 ghost use Rattle.sheet.specs.Judged.{TextJudged};
 ghost use Rattle.sheet.specs.Output.{output, lineAt, LinePut};
 
@@ -22,7 +25,6 @@ ghost use Rattle.sheet.specs.Output.{output, lineAt, LinePut};
 pub struct Sheet {
     pub number: u8,
     pub states: usize,
-    pub transitions: usize,
     pub nodes: usize,
     pub model: Verdict,
 }
@@ -39,21 +41,21 @@ pub enum Line {
     End,
 }
 
-// Reads a model's text into the fronts of the four tables and judges it into the verdict space.
-pub fn judge_text(
-    text: &[u8],
-    labels: &mut [u8],
-    initial: &mut [u8],
-    transitions: &mut [u16],
-    nodes: &mut [u16],
-    verdicts: &mut [u8],
-) -> Sheet
-    ensures { λ r. ⌜ TextJudged (now (text .entry))
-        (tables (now (labels .entry)) (now (initial .entry)) (now (transitions .entry)) (now (nodes .entry)))
-        (tables (now (labels .exit)) (now (initial .exit)) (now (transitions .exit)) (now (nodes .exit)))
-        (now (verdicts .entry)) (now (verdicts .exit)) r ⌝ }
+// Judges the model that a text holds into the verdict space. A refusal, of reading or of judging, leaves it as it was.
+pub fn judge_text(text: &[u8], verdicts: &mut [u8]) -> Sheet
+    ensures { λ r. ⌜ TextJudged (now (text .entry)) (now (verdicts .entry)) (now (verdicts .exit)) r ⌝ }
 {
-    let answer = text::read_model(text, labels, initial, transitions, nodes);
+    let mut labels = [0u8; MOST_LABELS];
+    let mut initial = [0u8; MOST_STATES];
+    let mut transitions = [0u16; MOST_TRANSITION_NUMBERS];
+    let mut nodes = [0u16; MOST_NODE_NUMBERS];
+    let answer = text::read_model(
+        text,
+        &mut labels,
+        &mut initial,
+        &mut transitions,
+        &mut nodes,
+    );
     match answer {
         Read::Refused(number) => refused(number),
         Read::Model {
@@ -61,7 +63,17 @@ pub fn judge_text(
             atoms: a,
             transitions: e,
             nodes: n,
-        } => judge_fronts(s, a, e, n, labels, initial, transitions, nodes, verdicts),
+        } => judge_fronts(
+            s,
+            a,
+            e,
+            n,
+            &labels,
+            &initial,
+            &transitions,
+            &nodes,
+            verdicts,
+        ),
     }
 }
 

@@ -12,12 +12,13 @@ use Rattle.text.specs.Readers.{Reading}
 use Rattle.text.specs.Readers.Reading.{found, ends, refused}
 use Rattle.text.specs.Form.{Model, modelText}
 use Rattle.text.specs.Print.{print, Printable, Accepted}
-use Rattle.text.specs.Promise.{Tables, Outcome, settled, anyShort, outcome, numberOf, countsOf, numberDue, countsDue, tablesDue, ModelRead}
+use Rattle.text.specs.Promise.{Tables, Outcome, settled, anyShort, textOutcome, outcome, numberOf, countsOf, numberDue, countsDue, tablesDue, ModelRead}
 use Rattle.text.specs.Promise.Outcome.{model, refusal}
 use Rattle.text.specs.declared.Read.{Read}
 use Rattle.text.specs.declared.Read.the-variants as read
 use Rattle.text.proofs.Readings.{found-same}
 use Rattle.text.proofs.Printed.{model-reads, model-back}
+use Rattle.text.proofs.Whole.{settled-printable}
 
 -- a number and values say which answer it is
 answer-one : (r r′ : Read) → numberOf r ≡ numberOf r′ → countsOf r ≡ countsOf r′ → r ≡ r′
@@ -50,7 +51,7 @@ pub formed-well : (text : List ℕ) (m : Model) → text ≡ print m → Printab
 formed-well text m e g = ap modelText e ∙ model-reads m g
 
 outcome-print : (before : Tables) (m : Model) → Printable m → anyShort before ≡ false → length (print m) ≤ mostText → outcome before (print m) ≡ model m
-unfolding outcome
+unfolding outcome textOutcome
 outcome-print before m g h b =
     simp (h, le-ltb mostText (length (print m)) b) (ap settled (model-reads m g))
 
@@ -65,7 +66,7 @@ print-read before after m r g h b p =
 
 -- whatever is accepted is the print of what was read
 pub read-print : (text : List ℕ) (before after : Tables) (s a e f : ℕ) → ModelRead text before after (read.Model s a e f) → Accepted text before after s a e f
-unfolding outcome
+unfolding outcome textOutcome
 read-print text before after s a e f p =
     by (anyShort before) (ltb mostText (length text)) (outcome before text) refl (p .counts) (p .lent)
   where
@@ -82,3 +83,24 @@ read-print text before after s a e f p =
     by true y o q c l = absurd (no-counts (sym (c ∙ ap countsDue q)))
     by false true o q c l = absurd (no-counts (sym (c ∙ ap countsDue q)))
     by false false o q c l = all (modelText text) refl (c ∙ ap countsDue q) (l ∙ ap (λ (x : Outcome). tablesDue x before) q)
+
+-- into tables that are long enough reading comes to what the text comes to
+outcome-here : (before : Tables) (text : List ℕ) → anyShort before ≡ false → outcome before text ≡ textOutcome text
+unfolding outcome
+outcome-here before text e = simp e
+
+pub read-comes : (text : List ℕ) (before after : Tables) (r : Read) → anyShort before ≡ false → ModelRead text before after r
+    → (numberOf r ≡ numberDue (textOutcome text)) × (countsOf r ≡ countsDue (textOutcome text)) × (after ≡ tablesDue (textOutcome text) before)
+read-comes text before after r e p =
+    let q = outcome-here before text e in
+    (p .number ∙ ap numberDue q, p .counts ∙ ap countsDue q, p .lent ∙ ap (λ (o : Outcome). tablesDue o before) q)
+
+-- a model that a text comes to is printable
+pub outcome-printable : (text : List ℕ) (m : Model) → textOutcome text ≡ model m → Printable m
+unfolding textOutcome
+outcome-printable text m e =
+    by (ltb mostText (length text)) (modelText text) refl e
+  where
+    by : (y : Bool) (o : Reading Model) → modelText text ≡ o → cond y (refusal 18) (settled o) ≡ model m → Printable m
+    by true o q e = absurd (let z : _≡_ {A = ℕ} 0 1 = cc in omega arith)
+    by false o q e = settled-printable o m text (sym q) (sym e)

@@ -11,7 +11,7 @@ use Rattle.kripke.specs.Limits.{mostStates, mostAtoms, mostTransitions, mostNod
 use Rattle.text.specs.Readers.{Reading, Reader, on, exactly, placeOf, digits, mayGrow, numberFrom, number, symbol, symbols, stopBefore, numbers, within, countLine, rowLine, numbersLine, lines, end, lineFeed}
 use Rattle.text.specs.Readers.Reading.{found, ends, refused}
 use Rattle.text.specs.Form.{Model, rowsText, labelledText, listedText, listsText, modelText, keyStates, keyAtoms, keyInit, keyLabel, keyEdges, keyEdge, keyNodes, keyNode, bits, letters}
-use Rattle.text.specs.Promise.{refusals, anyShort, Tables, Outcome, settled, outcome, numberDue, countsDue, ModelRead}
+use Rattle.text.specs.Promise.{refusals, anyShort, Tables, Outcome, settled, textOutcome, outcome, numberDue, countsDue, ModelRead}
 use Rattle.text.specs.Promise.Outcome.{refusal}
 use Rattle.text.specs.declared.Read.the-variants as read
 
@@ -113,7 +113,7 @@ at-member (x ∷ xs) zero h = List·Memᴰ·head refl
 at-member (x ∷ xs) (suc i) h = List·Memᴰ·tail (at-member xs i (omega arith))
 
 pub only-these : (text : List ℕ) (before after : Tables) (n : ℕ) → ModelRead text before after (read.Refused n) → List·Memᴰ n refusals
-unfolding outcome
+unfolding outcome textOutcome
 only-these text before after n p =
     by (anyShort before) (ltb mostText (length text)) (outcome before text) refl (p .number) (p .counts)
   where

@@ -13,7 +13,7 @@ use Rattle.text.specs.Readers.{Reading}
 use Rattle.text.specs.Readers.Reading.{found, ends, refused}
 use Rattle.text.specs.Form.{Labelled, Model, modelText}
 use Rattle.text.specs.Print.{Printable, PrintableLabels}
-use Rattle.text.specs.Promise.{Tables, tables, Outcome, settled, tooShort, anyShort, outcome, numberDue, countsDue, tablesDue, filled, ModelRead}
+use Rattle.text.specs.Promise.{Tables, tables, Outcome, settled, tooShort, anyShort, textOutcome, outcome, numberDue, countsDue, tablesDue, filled, ModelRead}
 use Rattle.text.specs.Promise.Outcome.{model, refusal}
 use Rattle.text.specs.Answers.{laid, modelIn, outcomeIn}
 use Rattle.text.specs.declared.Read.{Read}
@@ -49,15 +49,15 @@ LongEnough lent = Enough (length (lent .labels)) (length (lent .initial)) (lengt
 
 module _ (before : Tables) (text : List ℕ) where
   pub outcome-short : anyShort before ≡ true → outcome before text ≡ refusal 24
-  unfolding outcome
+  unfolding outcome textOutcome
   outcome-short e = simp e
 
   pub outcome-long : anyShort before ≡ false → mostText < length text → outcome before text ≡ refusal 18
-  unfolding outcome
+  unfolding outcome textOutcome
   outcome-long e h = simp (e, lt-ltb mostText (length text) h)
 
   pub outcome-text : anyShort before ≡ false → length text ≤ mostText → outcome before text ≡ settled (modelText text)
-  unfolding outcome
+  unfolding outcome textOutcome
   outcome-text e h = simp (e, le-ltb mostText (length text) h)
 
 pub promise-refused : (text : List ℕ) (before : Tables) (n : ℕ) → outcome before text ≡ refusal n → ModelRead text before before (read.Refused n)

@@ -42,9 +42,13 @@ tooShort L I T N = ltb L mostLabels || (ltb I mostStates || (ltb T mostTransitio
 abbrev pub anyShort : Tables → Bool
 anyShort lent = tooShort (length (lent .labels)) (length (lent .initial)) (length (lent .transitions)) (length (lent .nodes))
 
--- 24 comes before all others, 18 next, and then the text is read in order
+-- 18 comes first, and then the text is read in order
+unfoldable pub textOutcome : List ℕ → Outcome
+textOutcome text = cond (ltb mostText (length text)) (refusal 18) (settled (modelText text))
+
+-- 24 comes before all others
 unfoldable pub outcome : Tables → List ℕ → Outcome
-outcome lent text = cond (anyShort lent) (refusal 24) (cond (ltb mostText (length text)) (refusal 18) (settled (modelText text)))
+outcome lent text = cond (anyShort lent) (refusal 24) (textOutcome text)
 
 -- the paper's number for each answer, 0 where a model was read
 abbrev pub numberOf : Read → ℕ

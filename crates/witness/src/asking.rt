@@ -7,7 +7,7 @@ use kripke::limits::MOST_STATES;
 use kripke::limits::MOST_TRANSITION_NUMBERS;
 use kripke::limits::MOST_TRANSITIONS;
 use kripke::limits::MOST_VERDICTS;
-use sheet::Sheet;
+use text::Read;
 
 // The kind of an exists-until.
 const EXISTS_UNTIL: u16 = 5;
@@ -43,7 +43,7 @@ fn transitions_read(transitions: &[u16], count: usize) -> &[u16] {
 
 // The three numbers of a node that there is.
 fn ask(
-    sheet: Sheet,
+    states: usize,
     transitions: &[u16],
     kind: u16,
     left: u16,
@@ -58,36 +58,48 @@ fn ask(
         return;
     }
     listing::paths(
-        sheet.states,
-        transitions_read(transitions, sheet.transitions),
-        row(sheet.states, verdicts, left as usize),
-        row(sheet.states, verdicts, right as usize),
+        states,
+        transitions,
+        row(states, verdicts, left as usize),
+        row(states, verdicts, right as usize),
         level,
         start,
         most,
     );
 }
 
-fn ask_node(
-    sheet: Sheet,
-    transitions: &[u16],
-    nodes: &[u16; MOST_NODE_NUMBERS],
-    verdicts: &[u8],
-    node: usize,
-    start: usize,
-    level: u8,
-    most: usize,
-) {
-    if sheet.nodes <= node {
+// The model that was judged: its text is read once more, for the transitions and the nodes.
+fn ask_node(text: &[u8], verdicts: &[u8], node: usize, start: usize, level: u8, most: usize) {
+    let mut labels = [0u8; MOST_LABELS];
+    let mut initial = [0u8; MOST_STATES];
+    let mut transitions = [0u16; MOST_TRANSITION_NUMBERS];
+    let mut nodes = [0u16; MOST_NODE_NUMBERS];
+    let Read::Model {
+        states: s,
+        atoms: _,
+        transitions: e,
+        nodes: n,
+    } = text::read_model(
+        text,
+        &mut labels,
+        &mut initial,
+        &mut transitions,
+        &mut nodes,
+    )
+    else {
+        return;
+    };
+    if n <= node {
         listing::put(b"no question: the model has no such node\n");
         return;
     }
     if MOST_NODES <= node {
         return;
     }
+    let edges = transitions_read(&transitions, e);
     ask(
-        sheet,
-        transitions,
+        s,
+        edges,
         nodes[3 * node],
         nodes[3 * node + 1],
         nodes[3 * node + 2],
@@ -99,31 +111,11 @@ fn ask_node(
 }
 
 pub(crate) fn answer(text: &[u8], node: usize, start: usize, level: u8, most: usize) {
-    let mut labels = [0u8; MOST_LABELS];
-    let mut initial = [0u8; MOST_STATES];
-    let mut transitions = [0u16; MOST_TRANSITION_NUMBERS];
-    let mut nodes = [0u16; MOST_NODE_NUMBERS];
     let mut verdicts = [0u8; MOST_VERDICTS];
-    let sheet = sheet::judge_text(
-        text,
-        &mut labels,
-        &mut initial,
-        &mut transitions,
-        &mut nodes,
-        &mut verdicts,
-    );
+    let sheet = sheet::judge_text(text, &mut verdicts);
     if sheet.number != 0 {
         listing::refused(sheet.number);
         return;
     }
-    ask_node(
-        sheet,
-        &transitions,
-        &nodes,
-        &verdicts,
-        node,
-        start,
-        level,
-        most,
-    );
+    ask_node(text, &verdicts, node, start, level, most);
 }

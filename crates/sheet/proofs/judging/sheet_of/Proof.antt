@@ -15,10 +15,10 @@ refused-requires : tie.Need-refused-requires
 refused-requires c κs = search needs
 
 returns : tie.Need-returns
-returns c = ap (sheetOf _ _ _) (sym (c .before .answer .given .1))
+returns c = ap (sheetOf _ _) (sym (c .before .answer .given .1))
 
 returns-2 : tie.Need-returns-2
-returns-2 c = c .refused .ensures ∙ ap (sheetOf _ _ _) (sym (c .before .before .answer2 .given .1))
+returns-2 c = c .refused .ensures ∙ ap (sheetOf _ _) (sym (c .before .before .answer2 .given .1))
 
 pub sheet-of-spec : {M : Type 1} → statement M
 sheet-of-spec =
