@@ -66,6 +66,14 @@ pub record Judgeable (m : Model) (begins : List ℕ) : Type 0 where
 abbrev pub AtomFits : ℕ → ℕ → ℕ → Type 0
 AtomFits A kind a = kindOf kind ≡ ATOM → a < A
 
+-- node i can be judged into a space that holds the rows before it and has room for its own
+pub record NodeReady (m : Model) (begins ns : List ℕ) (i : ℕ) (space : List ℕ) : Type 0 where
+  pub judgeable : Judgeable m begins
+  pub listed : i < nodeCount ns
+  pub atom : AtomFits (m .atoms) (kindAt ns i) (leftAt ns i)
+  pub rows : RowsFit (m .states) i space
+  pub room : rowBegin (m .states) i + rowSize (m .states) ≤ length space
+
 -- the value of a kind that goes by its operands' values at the same state
 unfoldable pub plainValue : Kind → ℕ → ℕ → ℕ
 plainValue TRUE l r = top

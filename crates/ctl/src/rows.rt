@@ -9,7 +9,6 @@ ghost use Rattle.lists.specs.Entries.{anyBelow};
 ghost use Rattle.kripke.specs.Rows.{rowSize, rowBegin};
 ghost use Rattle.kripke.specs.Answers.{verdict};
 ghost use Rattle.ctl.specs.Rows.{nodeCount, rowsOf, spaceWith, initialWith, overInitial};
-ghost use Rattle.ctl.specs.Refusals.{kindAt, leftAt};
 ghost use Rattle.ctl.specs.Answers.{modelOf};
 ghost use Rattle.ctl.specs.Inside as inside;
 
@@ -50,7 +49,7 @@ fn put_node(
     i: usize,
     verdicts: &mut [u8],
 )
-    requires { ⌜ inside.Judgeable (modelOf states atoms (now labels) (now transitions)) (now begins) × (i < nodeCount (now nodes)) × inside.AtomFits atoms (kindAt (now nodes) i) (leftAt (now nodes) i) × inside.RowsFit states i (now verdicts) × (rowBegin states i + rowSize states ≤ length (now verdicts)) ⌝ }
+    requires { ⌜ inside.NodeReady (modelOf states atoms (now labels) (now transitions)) (now begins) (now nodes) i (now verdicts) ⌝ }
     ensures { λ _. ⌜ now (verdicts .exit) ≡ inside.withRowAt states i (inside.nodeRowAt (modelOf states atoms (now (labels .entry)) (now (transitions .entry))) (now (nodes .entry)) (now (verdicts .entry)) i) (now (verdicts .entry)) ⌝ }
 {
     let kind = nodes[3 * i];

@@ -50,10 +50,10 @@ cast-other : tie.Need-cast-other
 cast-other c = omega (arith, c .shared-slice-known7 .given (3 * c .before .before .before .before .before .before .before .before .args .i + 2))
 
 operand-requires : tie.Need-operand-requires
-operand-requires c κs = c .before .before .before .before .before .before .before .before .before .pre .3
+operand-requires c κs = c .before .before .before .before .before .before .before .before .before .pre .rows
 
 operand-requires-2 : tie.Need-operand-requires-2
-operand-requires-2 c κs = c .before .before .before .before .before .before .before .before .before .before .before .pre .3
+operand-requires-2 c κs = c .before .before .before .before .before .before .before .before .before .before .before .pre .rows
 
 slice-aggregate-node-row : tie.Need-slice-aggregate-node-row
 slice-aggregate-node-row c = search needs
@@ -61,7 +61,7 @@ slice-aggregate-node-row c = search needs
 node-row-requires : tie.Need-node-row-requires
 node-row-requires c κs =
     let st = c .before .before .before .before .before .before .before .before .before .before .before .before .before .before .before .before .before .before .before in
-    (st .pre .0, st .pre .2, omega (arith, st .pre .3 .few, c .before .before .before .before .before .before .before .before .before .operand .ensures .long), omega (arith, st .pre .3 .few, c .before .before .before .before .before .before .before .operand2 .ensures .long), omega (arith, st .pre .3 .few))
+    (st .pre .judgeable, st .pre .atom, omega (arith, st .pre .rows .few, c .before .before .before .before .before .before .before .before .before .operand .ensures .long), omega (arith, st .pre .rows .few, c .before .before .before .before .before .before .before .operand2 .ensures .long), omega (arith, st .pre .rows .few))
 
 slice-aggregate-put-row : tie.Need-slice-aggregate-put-row
 slice-aggregate-put-row c = search needs
@@ -69,7 +69,7 @@ slice-aggregate-put-row c = search needs
 put-row-requires : tie.Need-put-row-requires
 put-row-requires c κs =
     let st = c .before .before .before .before .before .before .before .before .before .before .before .before .before .before .before .before .before .before .before .before .before .before .before in
-    (omega (arith, st .pre .3 .few, c .before .before .before .node-row .kept .1 .1 .1 .1 .1 .1 .1 .1 .1 .0), st .pre .4)
+    (omega (arith, st .pre .rows .few, c .before .before .before .node-row .kept .1 .1 .1 .1 .1 .1 .1 .1 .1 .0), st .pre .room)
 
 same-length : tie.Need-same-length
 same-length c = search needs

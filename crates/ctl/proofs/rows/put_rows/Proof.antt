@@ -26,7 +26,13 @@ put-node-requires c κs =
     let x = st .args in
     let l = c .before .before .loop in
     let fit = space-fit (x .states) (x .atoms) (x .labels .now) (x .transitions .now) (x .begins .now) (x .nodes .now) (x .verdicts .now) (st .pre .0) (st .pre .2) (l .i) (omega arith) (l .verdicts) (l .inv .1) in
-    (st .pre .0, omega arith, st .pre .1 .atoms (l .i) (omega arith), fit .0, omega (arith, fit .1, st .pre .2, next-within (x .states) (l .i) (nodeCount (x .nodes .now)) (omega arith)))
+    record {
+      judgeable = st .pre .0;
+      listed = omega arith;
+      atom = st .pre .1 .atoms (l .i) (omega arith);
+      rows = fit .0;
+      room = omega (arith, fit .1, st .pre .2, next-within (x .states) (l .i) (nodeCount (x .nodes .now)) (omega arith));
+    }
 
 add-i : tie.Need-add-i Inv-loop μ-loop
 add-i c = search needs
