@@ -48,30 +48,6 @@ fn ask_first(head: &[u16; 4], transitions: &[u16], left: &[u8], right: &[u8], sp
     );
 }
 
-// Lines: states, level, start, room; transitions; left; right.
-pub(crate) fn first(body: &[u8]) {
-    let mut head = [0u16; 4];
-    let mut transitions = [0u16; TRANSITION_NUMBERS];
-    let mut row = [0u16; ENTRIES];
-    let mut other = [0u16; ENTRIES];
-    let mut left = [0u8; ENTRIES];
-    let mut right = [0u8; ENTRIES];
-    let mut space = [0u16; ENTRIES];
-    let h = line_at(body, 2, &mut head);
-    let t = line_at(body, h.next, &mut transitions);
-    let l = line_at(body, t.next, &mut row);
-    let r = line_at(body, l.next, &mut other);
-    to_bytes(&row, &mut left);
-    to_bytes(&other, &mut right);
-    ask_first(
-        &head,
-        numbers(&transitions, t.count),
-        bytes(&left, l.count),
-        bytes(&right, r.count),
-        &mut space,
-    );
-}
-
 // Next, lent the first entries of a list.
 fn ask_next(
     states: usize,
@@ -88,8 +64,8 @@ fn ask_next(
     telling::next_path(states, transitions, left, right, level, &mut list[..n]);
 }
 
-// Lines: states, level; transitions; left; right; the list. Next or Check.
-pub(crate) fn about_list(body: &[u8], next: bool) {
+// Lines: states, level, and for First start and room; transitions; left; right; and for Next and Check the list.
+pub(crate) fn question(body: &[u8], kind: u8) {
     let mut head = [0u16; 4];
     let mut transitions = [0u16; TRANSITION_NUMBERS];
     let mut row = [0u16; ENTRIES];
@@ -109,7 +85,11 @@ pub(crate) fn about_list(body: &[u8], next: bool) {
     let edges = numbers(&transitions, t.count);
     let lefts = bytes(&left, l.count);
     let rights = bytes(&right, r.count);
-    if next {
+    if kind == b'F' {
+        ask_first(&head, edges, lefts, rights, &mut list);
+        return;
+    }
+    if kind == b'N' {
         ask_next(states, edges, lefts, rights, at, p.count, &mut list);
         return;
     }

@@ -59,15 +59,8 @@ fn answer(body: &[u8]) {
     let kind = body[0];
     if kind == b'M' {
         model(&body[2..]);
-    }
-    if kind == b'F' {
-        asking::first(body);
-    }
-    if kind == b'N' {
-        asking::about_list(body, true);
-    }
-    if kind == b'C' {
-        asking::about_list(body, false);
+    } else {
+        asking::question(body, kind);
     }
     io::write_all(STDOUT_FILENO, b".\n");
 }
