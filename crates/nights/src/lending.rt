@@ -48,28 +48,9 @@ pub(crate) fn read(
     )
 }
 
-pub(crate) fn judge_text(
-    text: &[u8],
-    lent: Call,
-    labels: &mut [u8],
-    initial: &mut [u8],
-    transitions: &mut [u16],
-    nodes: &mut [u16],
-    verdicts: &mut [u8],
-) -> Sheet {
-    let l = spaces::least(lent.labels, labels.len());
-    let i = spaces::least(lent.initial, initial.len());
-    let t = spaces::least(lent.transitions, transitions.len());
-    let n = spaces::least(lent.nodes, nodes.len());
-    let v = spaces::least(lent.verdicts, verdicts.len());
-    sheet::judge_text(
-        text,
-        &mut labels[..l],
-        &mut initial[..i],
-        &mut transitions[..t],
-        &mut nodes[..n],
-        &mut verdicts[..v],
-    )
+pub(crate) fn judge_text(text: &[u8], lent: Call, verdicts: &mut [u8]) -> Sheet {
+    let room = spaces::least(lent.verdicts, verdicts.len());
+    sheet::judge_text(text, &mut verdicts[..room])
 }
 
 pub(crate) fn first(

@@ -1,4 +1,4 @@
-// Texts asked: each is read by `read_model`, and read and judged by `judge_text`.
+// Texts asked: read by `read_model`, and judged by `judge_text`.
 use crate::base;
 use crate::change::Call;
 use crate::change::Change;
@@ -42,21 +42,14 @@ fn tables_kept(
     spaces::numbers_kept(nodes, &n, filled.nodes)
 }
 
-// What reading answered, and whether the tables stayed, or what is behind their fronts; what it filled is handed on.
-fn tell_read(
-    answer: Read,
-    labels: &[u8],
-    initial: &[u8],
-    transitions: &[u16],
-    nodes: &[u16],
-) -> Call {
+// What reading answered, and whether the tables stayed, or what is behind their fronts.
+fn tell_read(answer: Read, labels: &[u8], initial: &[u8], transitions: &[u16], nodes: &[u16]) {
     match answer {
         Read::Refused(number) => {
             let filled = base::of(0, 0, 0, 0);
             let kept = tables_kept(filled, labels, initial, transitions, nodes);
             lines::answer(b"answer=", number);
             lines::kept(b", tables", kept);
-            filled
         }
         Read::Model {
             states: s,
@@ -71,52 +64,11 @@ fn tell_read(
             lines::count(b" edges=", e);
             lines::count(b" nodes=", n);
             lines::kept(b", rest", kept);
-            filled
         }
     }
 }
 
-// What judging a text answered. A refusal of reading keeps every space, one of judging all but what was read.
-fn tell_judged(sheet: Sheet, read: bool, tables: bool, space: &[u8]) {
-    let before = [PATTERN; MOST_VERDICTS];
-    if sheet.number == 0 {
-        let end = spaces::begin(sheet.nodes, sheet.states);
-        judging::verdicts(sheet.states, sheet.nodes, space, sheet.model);
-        lines::kept(b", rest", tables && spaces::bytes_kept(space, &before, end));
-        return;
-    }
-    let same = tables && spaces::bytes_kept(space, &before, 0);
-    lines::answer(b"answer=", sheet.number);
-    if read {
-        lines::kept(b", verdict space and rest of the tables", same);
-        return;
-    }
-    lines::kept(b", spaces", same);
-}
-
-// A text read and judged, of which reading fills so much.
-fn judged(name: &[u8], text: &[u8], lent: Call, filled: Call) {
-    let mut labels = [PATTERN; MOST_LABELS];
-    let mut initial = [PATTERN; MOST_STATES];
-    let mut transitions = [PATTERN_NUMBER; MOST_TRANSITION_NUMBERS];
-    let mut nodes = [PATTERN_NUMBER; MOST_NODE_NUMBERS];
-    let mut verdicts = [PATTERN; MOST_VERDICTS];
-    let sheet = lending::judge_text(
-        text,
-        lent,
-        &mut labels,
-        &mut initial,
-        &mut transitions,
-        &mut nodes,
-        &mut verdicts,
-    );
-    let tables = tables_kept(filled, &labels, &initial, &transitions, &nodes);
-    lines::case(b"text, ", name);
-    tell_judged(sheet, 0 < filled.states, tables, &verdicts);
-}
-
-// A text read, and read and judged.
-pub(crate) fn asked(name: &[u8], text: &[u8], lent: Call) {
+pub(crate) fn read(name: &[u8], text: &[u8], lent: Call) {
     let mut labels = [PATTERN; MOST_LABELS];
     let mut initial = [PATTERN; MOST_STATES];
     let mut transitions = [PATTERN_NUMBER; MOST_TRANSITION_NUMBERS];
@@ -130,8 +82,33 @@ pub(crate) fn asked(name: &[u8], text: &[u8], lent: Call) {
         &mut nodes,
     );
     lines::case(b"read, ", name);
-    let filled = tell_read(answer, &labels, &initial, &transitions, &nodes);
-    judged(name, text, lent, filled);
+    tell_read(answer, &labels, &initial, &transitions, &nodes);
+}
+
+// What judging a text answered, and whether the verdict space stayed, or what is behind the rows.
+fn tell_judged(sheet: Sheet, space: &[u8]) {
+    let before = [PATTERN; MOST_VERDICTS];
+    if sheet.number == 0 {
+        let end = spaces::begin(sheet.nodes, sheet.states);
+        judging::verdicts(sheet.states, sheet.nodes, space, sheet.model);
+        lines::kept(b", rest", spaces::bytes_kept(space, &before, end));
+        return;
+    }
+    lines::answer(b"answer=", sheet.number);
+    lines::kept(b", verdict space", spaces::bytes_kept(space, &before, 0));
+}
+
+fn judged(name: &[u8], text: &[u8], lent: Call) {
+    let mut verdicts = [PATTERN; MOST_VERDICTS];
+    let sheet = lending::judge_text(text, lent, &mut verdicts);
+    lines::case(b"text, ", name);
+    tell_judged(sheet, &verdicts);
+}
+
+// A text read, and read and judged.
+pub(crate) fn asked(name: &[u8], text: &[u8], lent: Call) {
+    read(name, text, lent);
+    judged(name, text, lent);
 }
 
 // A model printed as text, and asked.

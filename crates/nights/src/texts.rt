@@ -30,49 +30,50 @@ fn length_of(base: usize, length: Length) -> usize {
     }
 }
 
-// The base's text and line feeds behind it, as much of it as the length says, with one change of what reading is lent.
-fn based(name: &[u8], length: Length, change: Change) {
+// The base's text at the front of a buffer: where it ends.
+fn print_base(text: &mut [u8]) -> usize {
     let mut labels = [PATTERN; MOST_LABELS];
     let mut initial = [PATTERN; MOST_STATES];
     let mut transitions = [PATTERN_NUMBER; MOST_TRANSITION_NUMBERS];
     let mut nodes = [PATTERN_NUMBER; MOST_NODE_NUMBERS];
-    let mut text = [b'\n'; MOST_TEXT + 1];
     base::read(&mut labels, &mut initial, &mut transitions, &mut nodes);
-    let end = print::model(
-        &mut text,
-        base::call(),
-        &labels,
-        &initial,
-        &transitions,
-        &nodes,
-    );
+    print::model(text, base::call(), &labels, &initial, &transitions, &nodes)
+}
+
+// The base's text and line feeds behind it, as much of it as the length says.
+fn based(name: &[u8], length: Length) {
+    let mut text = [b'\n'; MOST_TEXT + 1];
+    let end = print_base(&mut text);
+    asked(name, spaces::bytes(&text, length_of(end, length)));
+}
+
+// The same read alone, with one table too short.
+fn short(name: &[u8], length: Length, change: Change) {
+    let mut text = [b'\n'; MOST_TEXT + 1];
+    let end = print_base(&mut text);
     let lent = base::lent().changed(change);
-    reading::asked(name, spaces::bytes(&text, length_of(end, length)), lent);
+    reading::read(name, spaces::bytes(&text, length_of(end, length)), lent);
 }
 
 // 24 before 18 before all others.
 fn lengths() {
     let over = Length::Bytes(MOST_TEXT + 1);
-    based(
-        b"line feeds up to the limit",
-        Length::Bytes(MOST_TEXT),
-        Change::Nothing,
-    );
-    based(b"a line feed beyond the limit", over, Change::Nothing);
+    based(b"line feeds up to the limit", Length::Bytes(MOST_TEXT));
+    based(b"a line feed beyond the limit", over);
     let short_labels = Change::Labels(MOST_LABELS - 1);
     let short_initial = Change::Initials(MOST_STATES - 1);
     let short_transitions = Change::Transitions(MOST_TRANSITION_NUMBERS - 1);
     let short_nodes = Change::Nodes(MOST_NODE_NUMBERS - 1);
-    based(b"labels one short", Length::Base, short_labels);
-    based(b"initial one short", Length::Base, short_initial);
-    based(b"transitions one short", Length::Base, short_transitions);
-    based(b"nodes one short", Length::Base, short_nodes);
-    based(
+    short(b"labels one short", Length::Base, short_labels);
+    short(b"initial one short", Length::Base, short_initial);
+    short(b"transitions one short", Length::Base, short_transitions);
+    short(b"nodes one short", Length::Base, short_nodes);
+    short(
         b"nodes one short, a line feed beyond the limit",
         over,
         short_nodes,
     );
-    based(b"labels one short, no text", Length::Bytes(0), short_labels);
+    short(b"labels one short, no text", Length::Bytes(0), short_labels);
 }
 
 fn asked(name: &[u8], text: &[u8]) {
@@ -81,17 +82,9 @@ fn asked(name: &[u8], text: &[u8]) {
 
 // 19 for a text that ends too early or too late, a key or a number that is not in the form.
 fn lines() {
-    based(b"no text", Length::Bytes(0), Change::Nothing);
-    based(
-        b"the last line feed missing",
-        Length::OneLess,
-        Change::Nothing,
-    );
-    based(
-        b"an empty line behind the last",
-        Length::OneMore,
-        Change::Nothing,
-    );
+    based(b"no text", Length::Bytes(0));
+    based(b"the last line feed missing", Length::OneLess);
+    based(b"an empty line behind the last", Length::OneMore);
     asked(b"another key", b"state=4\n");
     asked(b"a line left out", b"states=1\ninit=1\n");
     asked(b"no number", b"states=\n");
