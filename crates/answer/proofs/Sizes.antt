@@ -14,8 +14,9 @@ use Rattle.kripke.specs.Rows.{badRow, rowValues, valueAt}
 use Rattle.kripke.specs.Answers.{rowRead}
 use Rattle.kripke.specs.declared.rows.Row.{Row}
 use Rattle.kripke.proofs.StoredRows.{RowTaken}
+use Rattle.kripke.specs.Signs.{decimal, lineFeed}
 use Rattle.answer.proofs.Digits.{decimal-short}
-use Rattle.answer.specs.Lines.{lineFeed, letterOf, decimal, answerLine, rowLine, modelLine, mostLine}
+use Rattle.answer.specs.Lines.{letterOf, answerLine, rowLine, modelLine, mostLine}
 
 pub answer-size : (n : ℕ) → length (answerLine n) ≡ length (decimal n) + 8
 unfolding answerLine

@@ -6,7 +6,8 @@ ghost use lib.ListN.{length};
 ghost use Rattle.lists.specs.Entries.{at};
 ghost use Rattle.lists.specs.Rows.{tab};
 ghost use Rattle.kripke.specs.Values.{top};
-ghost use Rattle.answer.specs.Lines.{letterOf, decimal};
+ghost use Rattle.kripke.specs.Signs.{decimal};
+ghost use Rattle.answer.specs.Lines.{letterOf};
 ghost use Rattle.answer.specs.Inside.{Put};
 
 // The letter of a value.

@@ -5,5 +5,6 @@ pub mod Walks
 pub mod Until
 pub mod Endless
 pub mod Rows
+pub mod Signs
 pub mod Refusals
 pub mod Answers

@@ -22,6 +22,7 @@ use Rattle.ctl.specs.Rows as rows
 use Rattle.ctl.specs.Nodes as nodes
 use Rattle.ctl.specs.Refusals as judging
 use Rattle.kripke.specs.Rows as stored
+use Rattle.kripke.specs.Signs as signs
 use Rattle.kripke.specs.Until as untils
 use Rattle.kripke.specs.Transitions as graphs
 use Rattle.kripke.specs.Walks as walking
@@ -43,7 +44,7 @@ path-holds : (q : Question) (start : ℕ) (ps : List (List ℕ)) → refusalOf (
 path-holds q start ps z e space h = subst (Run q start space) e (computed-run q start space (roomy q start z space h))
 
 first-night : Printed input printed held
-unfolding joined bytesOf entries.anyBelow rowed.tab rowed.each choosing.best choosing.lowest graphs.succs graphs.firstOut graphs.ends walking.walks untils.placeValue untils.untilValue untils.until untils.next nodes.kindOf nodes.nodeValue nodes.nodeRow rows.rowsFrom rows.rowsOf rows.verdictAt rows.storedRows rows.spaceWith rows.overInitial rows.modelVerdict readers.exactly readers.placeOf readers.mayGrow readers.numberFrom readers.number readers.symbol readers.symbols readers.numbers readers.within readers.countLine readers.rowLine readers.numbersLine readers.lines readers.end form.rowsText form.labelledText form.listedText form.listsText form.modelText written.letterOf written.decimal written.answerLine written.rowLine written.modelLine sheets.rowAt sheets.rowsFrom sheets.output sheets.lineAt judging.badInitial judging.badNodes judging.judgeRefusal stored.someAbove stored.rowSize stored.rowBegin stored.storedRow stored.valueAt stored.rowValues stored.badRow stored.mostVerdicts stored.withRow tables.badCount tables.badList tables.tableRefusal causes.refusalOf
+unfolding joined bytesOf entries.anyBelow rowed.tab rowed.each choosing.best choosing.lowest graphs.succs graphs.firstOut graphs.ends walking.walks untils.placeValue untils.untilValue untils.until untils.next nodes.kindOf nodes.nodeValue nodes.nodeRow rows.rowsFrom rows.rowsOf rows.verdictAt rows.storedRows rows.spaceWith rows.overInitial rows.modelVerdict readers.exactly readers.placeOf readers.mayGrow readers.numberFrom readers.number readers.symbol readers.symbols readers.numbers readers.within readers.countLine readers.rowLine readers.numbersLine readers.lines readers.end form.rowsText form.labelledText form.listedText form.listsText form.modelText written.letterOf signs.numeral written.answerLine written.rowLine written.modelLine sheets.rowAt sheets.rowsFrom sheets.output sheets.lineAt judging.badInitial judging.badNodes judging.judgeRefusal stored.someAbove stored.rowSize stored.rowBegin stored.storedRow stored.valueAt stored.rowValues stored.badRow stored.mostVerdicts stored.withRow tables.badCount tables.badList tables.tableRefusal causes.refusalOf
 first-night = record { reads = refl; judged = refl; prints = refl }
 
 pub nights : Nights

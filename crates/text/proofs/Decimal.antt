@@ -8,9 +8,9 @@ use lib.ListN.{length}
 use lib.Dec.{ltb, eqb}
 use borrow.Author.Tests.{eq-eqb, ne-eqb, lt-ltb, le-ltb, le-leb, ltb-true, ltb-false, eqb-true}
 use Rattle.lists.specs.Entries.{at}
-use Rattle.text.specs.Readers.{placeOf, digits, mayGrow, numberFrom, number}
+use Rattle.kripke.specs.Signs.{decimal, digits, numeral}
+use Rattle.text.specs.Readers.{placeOf, mayGrow, numberFrom, number}
 use Rattle.text.specs.Readers.Reading.{found}
-use Rattle.text.specs.Print.{numeral, decimal}
 use Rattle.text.proofs.Steps.{grows}
 use Rattle.text.proofs.Readings.{found-same, ends-found, refused-found}
 

@@ -3,9 +3,10 @@ use Prim.Native.Nat.{ℕ, _*_}
 use mathlib.Core.Path.{_≡_, refl, ap, sym, _∙_, subst}
 use mathlib.Core.List.{List, [], _∷_, _++_, append-nil}
 use Rattle.kripke.specs.Limits.{mostStates, mostAtoms, mostTransitions, mostNodes}
+use Rattle.kripke.specs.Signs.{letters}
 use Rattle.text.specs.Readers.{on, give, placeOf, countLine, rowLine, numbersLine, lines, end}
 use Rattle.text.specs.Readers.Reading.{found}
-use Rattle.text.specs.Form.{Labelled, Listed, Model, rowsText, labelledText, listedText, listsText, modelText, keyStates, keyAtoms, keyInit, keyLabel, keyEdges, keyEdge, keyNodes, keyNode, bits, letters}
+use Rattle.text.specs.Form.{Labelled, Listed, Model, rowsText, labelledText, listedText, listsText, modelText, keyStates, keyAtoms, keyInit, keyLabel, keyEdges, keyEdge, keyNodes, keyNode, bits}
 use Rattle.text.specs.Print.{countPrint, rowPrint, linePrint, linesPrint, labelledPrint, listedPrint, print, Count, Values, PrintableLabels, PrintableList, Printable}
 use Rattle.text.proofs.Readings.{found-same, refused-found, through}
 use Rattle.text.proofs.Decimal.{Apart}

@@ -6,7 +6,8 @@ use mathlib.Core.Bool.{Bool, true, false}
 use native.Mathlib.Omega.{arith}
 use lib.ListN.{length, take, drop, length-drop}
 use lib.Dec.{ltb}
-use Rattle.text.specs.Readers.{Reading, Reader, on, give, exactly, placeOf, symbol, symbols, rowLine, lineFeed}
+use Rattle.kripke.specs.Signs.{lineFeed}
+use Rattle.text.specs.Readers.{Reading, Reader, on, give, exactly, placeOf, symbol, symbols, rowLine}
 use Rattle.text.specs.Readers.Reading.{found, ends, refused}
 
 pub found-same : {A : Type 0} {a b : A} {s t : List ℕ} → found a s ≡ found b t → (a ≡ b) × (s ≡ t)

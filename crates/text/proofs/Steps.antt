@@ -10,7 +10,8 @@ use lib.Seq.{drop-cons}
 use lib.Dec.{ltb, leb}
 use borrow.Author.Tests.{eq-eqb, ne-eqb, lt-ltb, le-ltb, ltb-true, leb-true}
 use Rattle.lists.specs.Entries.{at}
-use Rattle.text.specs.Readers.{Reading, Reader, on, valued, exactly, placeOf, digits, mayGrow, numberFrom, number, symbol, symbols, end}
+use Rattle.kripke.specs.Signs.{digits}
+use Rattle.text.specs.Readers.{Reading, Reader, on, valued, exactly, placeOf, mayGrow, numberFrom, number, symbol, symbols, end}
 use Rattle.text.specs.Readers.Reading.{found, ends, refused}
 use Rattle.text.specs.Answers.{bare}
 

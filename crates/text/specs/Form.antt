@@ -3,6 +3,7 @@
 use Prim.Native.Nat.{ℕ}
 use mathlib.Core.List.{List, [], _∷_}
 use Rattle.kripke.specs.Limits.{mostStates, mostAtoms, mostTransitions, mostNodes}
+use Rattle.kripke.specs.Signs.{letters}
 use Rattle.text.specs.Readers.{Reader, _>>=_, give, countLine, rowLine, numbersLine, lines, end}
 
 -- states= atoms= init= label= edges= edge= nodes= node=
@@ -33,10 +34,6 @@ keyNode = 110 ∷ 111 ∷ 100 ∷ 101 ∷ 61 ∷ []
 -- init has digits, 0 or 1
 abbrev pub bits : List ℕ
 bits = 48 ∷ 49 ∷ []
-
--- labels are letters: F is 0, U is 1, T is 2
-abbrev pub letters : List ℕ
-letters = 70 ∷ 85 ∷ 84 ∷ []
 
 -- the states and what each of them is
 pub record Labelled : Type 0 where

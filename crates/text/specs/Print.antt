@@ -1,25 +1,15 @@
 -- How a model is printed, and which models can be.
-use Prim.Native.Nat.{ℕ, zero, suc, _*_, _/_, _%_, _≤_}
+use Prim.Native.Nat.{ℕ, zero, suc, _*_, _≤_}
 use mathlib.Core.Path.{_≡_}
 use mathlib.Core.List.{List, [], _∷_, _++_, map}
-use mathlib.Core.Bool.{cond}
 use lib.ListN.{length, take, drop}
-use lib.Dec.{ltb}
 use Rattle.lists.specs.Entries.{at, All}
 use Rattle.kripke.specs.Limits.{mostStates, mostAtoms, mostTransitions, mostNodes}
-use Rattle.text.specs.Readers.{digits, stopBefore, lineFeed}
+use Rattle.kripke.specs.Signs.{decimal, letters, lineFeed}
+use Rattle.text.specs.Readers.{stopBefore}
 use Rattle.text.specs.Promise.{Tables, countsDue, tablesDue}
 use Rattle.text.specs.Promise.Outcome.{model}
-use Rattle.text.specs.Form.{Labelled, Listed, Model, keyStates, keyAtoms, keyInit, keyLabel, keyEdges, keyEdge, keyNodes, keyNode, bits, letters}
-
--- a number's digits, the last k of them at most
-unfoldable pub numeral : ℕ → ℕ → List ℕ
-numeral zero n = []
-numeral (suc k) n = cond (ltb n 10) (at digits n ∷ []) (numeral k (n / 10) ++ (at digits (n % 10) ∷ []))
-
--- a number up to 65,535 in decimal
-abbrev pub decimal : ℕ → List ℕ
-decimal n = numeral 5 n
+use Rattle.text.specs.Form.{Labelled, Listed, Model, keyStates, keyAtoms, keyInit, keyLabel, keyEdges, keyEdge, keyNodes, keyNode, bits}
 
 -- a line key=count
 abbrev pub countPrint : List ℕ → ℕ → List ℕ

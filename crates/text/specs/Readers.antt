@@ -5,6 +5,7 @@ use mathlib.Core.List.{List, [], _∷_, _++_}
 use mathlib.Core.Bool.{Bool, cond, _&&_}
 use lib.ListN.{length}
 use lib.Dec.{ltb, leb, eqb}
+use Rattle.kripke.specs.Signs.{comma, digits, lineFeed}
 
 -- what reading comes to
 pub data Reading (A : Type 0) : Type 0 where
@@ -44,18 +45,6 @@ exactly (k ∷ ks) (c ∷ s) = cond (eqb c k) (exactly ks s) (refused 19)
 unfoldable pub placeOf : List ℕ → ℕ → ℕ
 placeOf [] c = 0
 placeOf (g ∷ gs) c = cond (eqb g c) 0 (suc (placeOf gs c))
-
--- 0123456789
-abbrev pub digits : List ℕ
-digits = 48 ∷ 49 ∷ 50 ∷ 51 ∷ 52 ∷ 53 ∷ 54 ∷ 55 ∷ 56 ∷ 57 ∷ []
-
--- stands between the numbers of a line
-abbrev pub comma : ℕ
-comma = 44
-
--- ends each line
-abbrev pub lineFeed : ℕ
-lineFeed = 10
 
 -- a number may go on with a digit d: it has no leading zero, and stays up to 65,535
 unfoldable pub mayGrow : ℕ → ℕ → Bool

@@ -2,7 +2,8 @@
 ghost use mathlib.Core.Path.{_≡_};
 ghost use Prim.Native.Nat.{_+_, _≤_};
 ghost use lib.ListN.{length, take, drop};
-ghost use Rattle.text.specs.Readers.{exactly, digits, number, placeOf, mayGrow, symbols, stopBefore, numbers};
+ghost use Rattle.kripke.specs.Signs.{digits};
+ghost use Rattle.text.specs.Readers.{exactly, number, placeOf, mayGrow, symbols, stopBefore, numbers};
 ghost use Rattle.text.specs.Answers.{told, nothing, first, bare};
 
 pub struct Cursor {

@@ -42,25 +42,25 @@ add-put-byte-4 : tie.Need-add-put-byte-4
 add-put-byte-4 c = search needs
 
 put-byte-requires-4 : tie.Need-put-byte-requires-4
-put-byte-requires-4 c κs = omega (arith, ap length (decimal-three _ (c .before .before .if1 .left) (c .before .if2 .left)))
+put-byte-requires-4 c κs = omega (arith, ap length (decimal-three _ (c .before .before .if1 .left) (c .before .if2 .left) (omega arith)))
 
 add-put-byte-5 : tie.Need-add-put-byte-5
 add-put-byte-5 c = search needs
 
 put-byte-requires-5 : tie.Need-put-byte-requires-5
-put-byte-requires-5 c κs = omega (arith, ap length (decimal-three _ (c .before .before .before .before .before .before .if1 .left) (c .before .before .before .before .before .if2 .left)), c .before .before .before .put-byte4 .ensures .ends)
+put-byte-requires-5 c κs = omega (arith, ap length (decimal-three _ (c .before .before .before .before .before .before .if1 .left) (c .before .before .before .before .before .if2 .left) (omega arith)), c .before .before .before .put-byte4 .ensures .ends)
 
 add-put-byte-6 : tie.Need-add-put-byte-6
 add-put-byte-6 c = search needs
 
 put-byte-requires-6 : tie.Need-put-byte-requires-6
-put-byte-requires-6 c κs = omega (arith, ap length (decimal-three _ (c .before .before .before .before .before .before .before .before .before .before .if1 .left) (c .before .before .before .before .before .before .before .before .before .if2 .left)), c .before .before .before .before .before .before .before .put-byte4 .ensures .ends, c .before .before .before .put-byte5 .ensures .ends)
+put-byte-requires-6 c κs = omega (arith, ap length (decimal-three _ (c .before .before .before .before .before .before .before .before .before .before .if1 .left) (c .before .before .before .before .before .before .before .before .before .if2 .left) (omega arith)), c .before .before .before .before .before .before .before .put-byte4 .ensures .ends, c .before .before .before .put-byte5 .ensures .ends)
 
 same-length-3 : tie.Need-same-length-3
 same-length-3 c = search needs
 
 returns-3 : tie.Need-returns-3
-returns-3 c = rw (decimal-three _ (c .before .before .before .before .before .before .before .before .before .before .before .before .before .if1 .left) (c .before .before .before .before .before .before .before .before .before .before .before .before .if2 .left)) (put-then (c .before .before .before .before .before .before .before .before .before .before .put-byte4 .ensures) (put-then (c .before .before .before .before .before .before .put-byte5 .ensures) (c .before .before .put-byte6 .ensures)))
+returns-3 c = rw (decimal-three _ (c .before .before .before .before .before .before .before .before .before .before .before .before .before .if1 .left) (c .before .before .before .before .before .before .before .before .before .before .before .before .if2 .left) (omega arith)) (put-then (c .before .before .before .before .before .before .before .before .before .before .put-byte4 .ensures) (put-then (c .before .before .before .before .before .before .put-byte5 .ensures) (c .before .before .put-byte6 .ensures)))
 
 pub put-decimal-spec : {M : Type 1} → statement M
 put-decimal-spec =

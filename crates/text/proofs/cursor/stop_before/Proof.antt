@@ -2,7 +2,8 @@
 use borrow.Author.Needs.{needs}
 use Prim.Native.Nat.{ℕ, zero, suc}
 use mathlib.Core.Path.{_≡_, refl}
-use Rattle.text.specs.Readers.{stopBefore, comma}
+use Rattle.kripke.specs.Signs.{comma}
+use Rattle.text.specs.Readers.{stopBefore}
 use Rattle.text.proofs.cursor.stop_before.Statement.{statement}
 use Rattle.text.proofs.cursor.stop_before.Tie as tie
 
