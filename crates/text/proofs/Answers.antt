@@ -17,7 +17,7 @@ use Rattle.text.specs.Readers.Reading.{found, ends, refused}
 use Rattle.text.specs.Form.{Model}
 use Rattle.text.specs.Promise.{settled}
 use Rattle.text.specs.Promise.Outcome.{refusal}
-use Rattle.text.specs.Answers.{told, nothing, bare, laid, after, LineRead, refusalOf}
+use Rattle.text.specs.Inside.{told, nothing, bare, laid, after, LineRead, refusalOf}
 use Rattle.text.proofs.Readings.{found-same, ends-found, refused-found, symbols-found}
 
 -- the answer is no line

@@ -8,7 +8,7 @@ use native.Mathlib.Omega.{arith}
 use lib.ListN.{length, take, drop, set, length-append}
 use lib.Seq.{length-take-le, take-at, drop-at, paste, paste-zero, paste-suc, length-paste}
 use Rattle.lists.specs.Entries.{at}
-use Rattle.text.specs.Answers.{laid}
+use Rattle.text.specs.Inside.{laid}
 use Rattle.text.specs.Promise.{filled}
 
 -- a table whose first j values of s are laid from `to` on

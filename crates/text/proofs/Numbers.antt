@@ -12,7 +12,7 @@ use Rattle.text.specs.declared.cursor.Line.{Line}
 use Rattle.text.specs.declared.cursor.Line.the-variants.{Read}
 use Rattle.text.specs.Readers.{on, give, valued, number, numbers, stopBefore}
 use Rattle.text.specs.Readers.Reading.{found}
-use Rattle.text.specs.Answers.{told, first}
+use Rattle.text.specs.Inside.{told, first}
 use Rattle.text.proofs.Steps.{joined, valued-nothing}
 use Rattle.text.proofs.Answers.{Stops, stopped, went}
 

@@ -12,7 +12,7 @@ use Rattle.text.specs.declared.cursor.Line.{Line}
 use Rattle.text.specs.declared.cursor.Line.the-variants.{Read}
 use Rattle.text.specs.Readers.{Reading, Reader, on, give, valued, lines, rowLine}
 use Rattle.text.specs.Readers.Reading.{found}
-use Rattle.text.specs.Answers.{told, laid, after, LineRead, LinesRead}
+use Rattle.text.specs.Inside.{told, laid, after, LineRead, LinesRead}
 use Rattle.text.proofs.Steps.{joined, valued-nothing}
 use Rattle.text.proofs.Laid.{laid-take, laid-drop}
 use Rattle.text.proofs.Readings.{row-size}

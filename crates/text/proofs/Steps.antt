@@ -13,7 +13,7 @@ use Rattle.lists.specs.Entries.{at}
 use Rattle.kripke.specs.Signs.{digits}
 use Rattle.text.specs.Readers.{Reading, Reader, on, valued, exactly, placeOf, mayGrow, numberFrom, number, symbol, symbols, end}
 use Rattle.text.specs.Readers.Reading.{found, ends, refused}
-use Rattle.text.specs.Answers.{bare}
+use Rattle.text.specs.Inside.{bare}
 
 pub here : (s : List ℕ) (i : ℕ) → i < length s → drop i s ≡ at s i ∷ drop (i + 1) s
 here s i h = rw (add-one, drop-cons s i 0)

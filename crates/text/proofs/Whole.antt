@@ -15,7 +15,7 @@ use Rattle.text.specs.Form.{Labelled, Model, modelText}
 use Rattle.text.specs.Print.{Printable, PrintableLabels}
 use Rattle.text.specs.Promise.{Tables, tables, Outcome, settled, tooShort, anyShort, textOutcome, outcome, numberDue, countsDue, tablesDue, filled, ModelRead}
 use Rattle.text.specs.Promise.Outcome.{model, refusal}
-use Rattle.text.specs.Answers.{laid, modelIn, outcomeIn}
+use Rattle.text.specs.Inside.{laid, modelIn, outcomeIn}
 use Rattle.text.specs.declared.Read.{Read}
 use Rattle.text.specs.declared.Read.the-variants as read
 use Rattle.text.proofs.Read.{the-type}

@@ -4,7 +4,7 @@ ghost use Prim.Native.Nat.{_+_, _≤_};
 ghost use lib.ListN.{length, take, drop};
 ghost use Rattle.kripke.specs.Signs.{digits};
 ghost use Rattle.text.specs.Readers.{exactly, number, placeOf, mayGrow, symbols, stopBefore, numbers};
-ghost use Rattle.text.specs.Answers.{told, nothing, first, bare};
+ghost use Rattle.text.specs.Inside.{told, nothing, first, bare};
 
 pub struct Cursor {
     pub at: usize,

@@ -9,7 +9,7 @@ ghost use lib.ListN.{length, drop};
 ghost use Rattle.kripke.specs.Signs.{letters};
 ghost use Rattle.text.specs.Readers.{countLine, rowLine, numbersLine, lines};
 ghost use Rattle.text.specs.Form.{keyLabel};
-ghost use Rattle.text.specs.Answers.{told, first, LineRead, LinesRead};
+ghost use Rattle.text.specs.Inside.{told, first, LineRead, LinesRead};
 
 // The numbers of the longest line.
 const WIDEST: usize = 3;

@@ -12,7 +12,7 @@ ghost use lib.ListN.{length, drop};
 ghost use Rattle.kripke.specs.Limits.{mostStates, mostLabels, mostTransitionNumbers, mostNodeNumbers};
 ghost use Rattle.text.specs.Form.{rowsText, Labelled, labelledText, listedText, listsText, modelText};
 ghost use Rattle.text.specs.Promise.{settled};
-ghost use Rattle.text.specs.Answers.{told, labelledIn, listedIn, listsIn, refusalOf, outcomeIn};
+ghost use Rattle.text.specs.Inside.{told, labelledIn, listedIn, listsIn, refusalOf, outcomeIn};
 
 impl Cursor {
     // The initial row and a line of labels a state. The answer carries the two counts on.

@@ -9,7 +9,7 @@ ghost use mathlib.Core.List.{map};
 ghost use Prim.Native.Nat.{_+_, _≤_};
 ghost use lib.ListN.{length, take, drop};
 ghost use Rattle.text.specs.Readers.{placeOf};
-ghost use Rattle.text.specs.Answers.{laid};
+ghost use Rattle.text.specs.Inside.{laid};
 ghost use Rattle.text.specs.Promise.{tooShort, filled};
 
 // Whether a table of one of these lengths is too short for the largest model.

@@ -7,7 +7,7 @@ use native.Mathlib.Nat.{mul-le-mul-left}
 use Rattle.text.specs.Form.{Model}
 use Rattle.text.specs.Promise.{Tables, tables}
 use Rattle.text.specs.Print.{Printable}
-use Rattle.text.specs.Answers.{modelIn, outcomeIn}
+use Rattle.text.specs.Inside.{modelIn, outcomeIn}
 use Rattle.text.proofs.Whole.{LongEnough, enough, outcome-short, outcome-long, outcome-text, promise-refused, promise-stopped, promise-model, settled-printable, labels-fit}
 use Rattle.text.proofs.read_model.Statement.{statement}
 use Rattle.text.proofs.read_model.Tie as tie

@@ -4,7 +4,7 @@ use mathlib.Core.Path.{ap, sym, _∙_}
 use denote.Ref.{now}
 use Rattle.text.specs.Form.{modelText, listsText}
 use Rattle.text.specs.Promise.{settled}
-use Rattle.text.specs.Answers.{told, labelledIn, listsIn}
+use Rattle.text.specs.Inside.{told, labelledIn, listsIn}
 use Rattle.text.proofs.Answers.{stopped, went, outcome-refused}
 use Rattle.text.proofs.model.read_tables.Statement.{statement}
 use Rattle.text.proofs.model.read_tables.Tie as tie

@@ -7,7 +7,7 @@ use lib.ListN.{drop}
 use native.Mathlib.Nat.{mul-le-mul, mul-comm}
 use Rattle.kripke.specs.Limits.{mostStates, mostAtoms}
 use Rattle.text.specs.Form.{labelledText, keyStates, keyAtoms}
-use Rattle.text.specs.Answers.{told, first, labelledIn}
+use Rattle.text.specs.Inside.{told, first, labelledIn}
 use Rattle.text.proofs.Inverse.{count-inverse}
 use Rattle.text.proofs.Answers.{stopped, went}
 use Rattle.text.proofs.cursor.Cursor.labelled.Statement.{statement}

@@ -7,7 +7,7 @@ use denote.Ref.{now}
 use lib.ListN.{take, drop}
 use native.Mathlib.Nat.{mul-le-mul-left}
 use Rattle.text.specs.Form.{listedText}
-use Rattle.text.specs.Answers.{told, first, listedIn}
+use Rattle.text.specs.Inside.{told, first, listedIn}
 use Rattle.text.proofs.Inverse.{count-inverse}
 use Rattle.text.proofs.Answers.{stopped, went}
 use Rattle.text.proofs.cursor.Cursor.listed.Statement.{statement}

@@ -3,7 +3,7 @@ use borrow.Author.Needs.{needs}
 use mathlib.Core.Path.{sym, _∙_}
 use denote.Ref.{now}
 use Rattle.text.specs.Form.{listsText}
-use Rattle.text.specs.Answers.{listedIn, listsIn}
+use Rattle.text.specs.Inside.{listedIn, listsIn}
 use Rattle.text.proofs.Steps.{end-done, end-broken}
 use Rattle.text.proofs.Answers.{stopped, went}
 use Rattle.text.proofs.cursor.Cursor.lists.Statement.{statement}

@@ -6,7 +6,7 @@ use Prim.Native.Nat.{_-_}
 use denote.Ref.{now}
 use lib.ListN.{take, drop}
 use Rattle.text.specs.Readers.{placeOf, rowLine}
-use Rattle.text.specs.Answers.{told, nothing}
+use Rattle.text.specs.Inside.{told, nothing}
 use Rattle.text.proofs.Readings.{row-fits}
 use Rattle.text.proofs.Answers.{stopped, went, unread, line-read, row-told}
 use Rattle.text.proofs.cursor.Cursor.row_line.Statement.{statement}

@@ -7,7 +7,7 @@ use native.Mathlib.Nat.{sub-zero}
 use denote.Ref.{now}
 use lib.ListN.{drop}
 use Rattle.text.specs.Readers.{symbols}
-use Rattle.text.specs.Answers.{bare}
+use Rattle.text.specs.Inside.{bare}
 use Rattle.text.proofs.Steps.{symbols-ends, symbols-broken, symbols-on, symbols-done}
 use Rattle.text.proofs.cursor.Cursor.symbols.Statement.{statement}
 use Rattle.text.proofs.cursor.Cursor.symbols.Tie as tie

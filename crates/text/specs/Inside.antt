@@ -1,4 +1,4 @@
--- What the answers of the readers in src/ say: the value and what is left of the text, that the text ends, or the refusal's number.
+-- What the private functions answer one another: the value and what is left of the text, that the text ends, or the number of a refusal.
 use Prim.Native.Nat.{ℕ, _+_, _*_}
 use mathlib.Core.Path.{_≡_}
 use mathlib.Core.List.{List, _++_}
