@@ -1,4 +1,5 @@
 pub mod Placed
 pub mod Digits
+pub mod Entries
 pub mod Promises
 pub mod Sizes

@@ -1,22 +1,25 @@
 -- How long each line is, and the letters of a stored row.
-use Prim.Native.Nat.{ℕ, _+_, _≤_}
-use mathlib.Core.Path.{_≡_, ap, sym, _∙_}
+use Prim.Native.Nat.{ℕ, _+_, _≤_, _<_}
+use mathlib.Core.Path.{_≡_, refl, ap, sym, _∙_}
 use mathlib.Core.List.{List, [], _∷_, map}
-use mathlib.Core.Bool.{Bool, not, _&&_}
+use mathlib.Core.Bool.{Bool, true, false, not, _&&_}
 use native.Mathlib.Omega.{arith}
 use lib.ListN.{length, length-append, length-map}
-use lib.Dec.{leb}
+use lib.Dec.{ltb, leb}
+use borrow.Author.Tests.{lt-ltb, le-leb, lt-leb}
 use Rattle.lists.specs.Entries.{at}
 use Rattle.lists.specs.Rows.{tab}
 use Rattle.lists.proofs.Rows.{length-tab, tab-map, tab-same}
+use Rattle.lists.proofs.Tests.{and-both}
 use Rattle.kripke.specs.Limits.{mostStates}
 use Rattle.kripke.specs.Rows.{badRow, rowValues, valueAt}
 use Rattle.kripke.specs.Answers.{rowRead}
 use Rattle.kripke.specs.declared.rows.Row.{Row}
 use Rattle.kripke.proofs.StoredRows.{RowTaken}
-use Rattle.kripke.specs.Signs.{decimal, lineFeed}
-use Rattle.answer.proofs.Digits.{decimal-short}
-use Rattle.answer.specs.Lines.{letterOf, answerLine, rowLine, modelLine, mostLine}
+use Rattle.kripke.specs.Signs.{decimal, lineFeed, numbersPrint}
+use Rattle.kripke.proofs.Decimals.{decimal-short}
+use Rattle.answer.proofs.Entries.{entries-few}
+use Rattle.answer.specs.Lines.{letterOf, answerLine, rowLine, modelLine, pathLine, mostLine, mostPathLine}
 
 pub answer-size : (n : ℕ) → length (answerLine n) ≡ length (decimal n) + 8
 unfolding answerLine
@@ -52,3 +55,22 @@ row-fits S stored h = omega (arith, row-size S stored)
 
 pub model-fits : (v : ℕ) → length (modelLine v) ≤ mostLine
 model-fits v = omega (arith, model-size v)
+
+pub path-size : (path : List ℕ) → length (pathLine path) ≡ length (numbersPrint path) + 5
+unfolding pathLine
+path-size path = omega arith
+
+-- and none of a path longer than `mostPathLine`
+pub path-fits : (path : List ℕ) → length path ≤ mostStates → length (pathLine path) ≤ mostPathLine
+path-fits path h = omega (arith, path-size path, entries-few path)
+
+-- whether a list has a line
+module _ (path : List ℕ) where
+  pub path-empty : length path ≡ 0 → (ltb 0 (length path) && leb (length path) mostStates) ≡ false
+  path-empty e = rw e refl
+
+  pub path-long : mostStates < length path → (ltb 0 (length path) && leb (length path) mostStates) ≡ false
+  path-long h = rw (lt-ltb 0 (length path) (omega arith), lt-leb (length path) mostStates h) refl
+
+  pub path-right : 0 < length path → length path ≤ mostStates → (ltb 0 (length path) && leb (length path) mostStates) ≡ true
+  path-right h k = and-both _ _ (lt-ltb 0 (length path) h) (le-leb (length path) mostStates k)

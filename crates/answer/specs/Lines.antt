@@ -1,11 +1,11 @@
 -- The text form of an answer: its lines, as bytes.
-use Prim.Native.Nat.{ℕ, _+_}
+use Prim.Native.Nat.{ℕ, _+_, _*_}
 use mathlib.Core.List.{List, [], _∷_, _++_, map}
 use Rattle.lists.specs.Entries.{at}
 use Rattle.kripke.specs.Limits.{mostStates}
-use Rattle.kripke.specs.Signs.{decimal, letters, lineFeed}
+use Rattle.kripke.specs.Signs.{decimal, letters, lineFeed, numbersPrint}
 
--- answer= row= model=
+-- answer= row= model= path=
 abbrev pub keyAnswer : List ℕ
 keyAnswer = 97 ∷ 110 ∷ 115 ∷ 119 ∷ 101 ∷ 114 ∷ 61 ∷ []
 
@@ -14,6 +14,9 @@ keyRow = 114 ∷ 111 ∷ 119 ∷ 61 ∷ []
 
 abbrev pub keyModel : List ℕ
 keyModel = 109 ∷ 111 ∷ 100 ∷ 101 ∷ 108 ∷ 61 ∷ []
+
+abbrev pub keyPath : List ℕ
+keyPath = 112 ∷ 97 ∷ 116 ∷ 104 ∷ 61 ∷ []
 
 -- the letter of a value
 unfoldable pub letterOf : ℕ → ℕ
@@ -31,6 +34,14 @@ rowLine values = keyRow ++ (map letterOf values ++ (lineFeed ∷ []))
 unfoldable pub modelLine : ℕ → List ℕ
 modelLine v = keyModel ++ (letterOf v ∷ lineFeed ∷ [])
 
--- the bytes of the longest line
+-- path= and the states of a path, commas between them
+unfoldable pub pathLine : List ℕ → List ℕ
+pathLine path = keyPath ++ numbersPrint path
+
+-- the bytes of the longest line of a path: a state has five digits at the most
+abbrev pub mostPathLine : ℕ
+mostPathLine = 6 * mostStates + 5
+
+-- the bytes of the longest other line
 abbrev pub mostLine : ℕ
 mostLine = mostStates + 5

@@ -4,11 +4,11 @@ use mathlib.Core.Path.{_≡_}
 use mathlib.Core.List.{List, _++_}
 use mathlib.Core.Bool.{Bool, cond, not, _&&_}
 use lib.ListN.{length, drop}
-use lib.Dec.{leb}
+use lib.Dec.{ltb, leb}
 use Rattle.kripke.specs.Values.{top}
 use Rattle.kripke.specs.Limits.{mostStates}
 use Rattle.kripke.specs.Rows.{badRow, rowValues}
-use Rattle.answer.specs.Lines.{answerLine, rowLine, modelLine}
+use Rattle.answer.specs.Lines.{answerLine, rowLine, modelLine, pathLine}
 use Rattle.answer.specs.declared.Written.{Written}
 use Rattle.answer.specs.declared.Written.the-variants.{Bytes, NoRoom, NoLine}
 
@@ -32,6 +32,10 @@ rowDue S stored = lineIf (leb S mostStates && not (badRow S stored)) (rowLine (r
 -- `write_model`: the line of a verdict; a number above 2 is none
 abbrev pub modelDue : ℕ → Due
 modelDue v = lineIf (leb v top) (modelLine v)
+
+-- `write_path`: the line of a list of one entry or more, and no more than there may be states; any other list has none
+abbrev pub pathDue : List ℕ → Due
+pathDue path = lineIf (ltb 0 (length path) && leb (length path) mostStates) (pathLine path)
 
 -- a line has room in so many bytes
 abbrev pub fits : List ℕ → ℕ → Bool

@@ -10,14 +10,19 @@ use kripke::values::Verdict;
 mod put;
 
 use put::decimal_size;
+use put::entries_size;
 use put::letter;
 use put::put_byte;
 use put::put_bytes;
 use put::put_decimal;
+use put::put_entries;
 use put::put_letters;
-ghost use Rattle.answer.specs.Promise.{numberDue, rowDue, modelDue, LineWritten};
+ghost use Rattle.answer.specs.Promise.{numberDue, rowDue, modelDue, pathDue, LineWritten};
 
-// A buffer of so many bytes has room for every line: the longest is row= with a letter a state.
+// A buffer of so many bytes has room for the line of every path: a state has five digits at the most, and a comma or the line feed.
+pub const MOST_PATH_LINE: usize = 6 * MOST_STATES + 5;
+
+// And for every other line: the longest is row= with a letter a state.
 pub const MOST_LINE: usize = MOST_STATES + 5;
 
 // What writing a line answers. Only `Bytes` changes the buffer.
@@ -26,7 +31,7 @@ pub enum Written {
     Bytes(usize),
     // The buffer is too short for the line.
     NoRoom,
-    // What was given is no row, or no verdict: it has no line.
+    // What was given is no row, no verdict or no path: it has no line.
     NoLine,
 }
 
@@ -34,12 +39,12 @@ pub enum Written {
 pub fn write_number(number: u8, buffer: &mut [u8]) -> Written
     ensures { λ r. ⌜ LineWritten (numberDue number) (now (buffer .entry)) (now (buffer .exit)) r ⌝ }
 {
-    let size = decimal_size(number) + 8;
+    let size = decimal_size(number as u16) + 8;
     if buffer.len() < size {
         return Written::NoRoom;
     }
     let a = put_bytes(b"answer=", buffer, 0);
-    let b = put_decimal(number, buffer, a);
+    let b = put_decimal(number as u16, buffer, a);
     let end = put_byte(b'\n', buffer, b);
     Written::Bytes(end)
 }
@@ -74,5 +79,25 @@ pub fn write_model(verdict: Verdict, buffer: &mut [u8]) -> Written
     let a = put_bytes(b"model=", buffer, 0);
     let b = put_byte(letter(verdict.0), buffer, a);
     let end = put_byte(b'\n', buffer, b);
+    Written::Bytes(end)
+}
+
+// path= and the states, commas between them
+pub fn write_path(path: &[u16], buffer: &mut [u8]) -> Written
+    ensures { λ r. ⌜ LineWritten (pathDue (now (path .entry))) (now (buffer .entry)) (now (buffer .exit)) r ⌝ }
+{
+    let n = path.len();
+    if n == 0 {
+        return Written::NoLine;
+    }
+    if MOST_STATES < n {
+        return Written::NoLine;
+    }
+    let size = entries_size(path) + 5;
+    if buffer.len() < size {
+        return Written::NoRoom;
+    }
+    let a = put_bytes(b"path=", buffer, 0);
+    let end = put_entries(path, buffer, a);
     Written::Bytes(end)
 }

@@ -6,7 +6,8 @@ ghost use lib.ListN.{length};
 ghost use Rattle.lists.specs.Entries.{at};
 ghost use Rattle.lists.specs.Rows.{tab};
 ghost use Rattle.kripke.specs.Values.{top};
-ghost use Rattle.kripke.specs.Signs.{decimal};
+ghost use Rattle.kripke.specs.Limits.{mostStates};
+ghost use Rattle.kripke.specs.Signs.{digits, decimal, numbersPrint};
 ghost use Rattle.answer.specs.Lines.{letterOf};
 ghost use Rattle.answer.specs.Inside.{Put};
 
@@ -25,7 +26,7 @@ pub(crate) fn letter(value: u8) -> u8
 }
 
 // How many digits a number has.
-pub(crate) fn decimal_size(number: u8) -> usize
+pub(crate) fn decimal_size(number: u16) -> usize
     ensures { λ r. ⌜ r ≡ length (decimal number) ⌝ }
 {
     if number < 10 {
@@ -34,7 +35,13 @@ pub(crate) fn decimal_size(number: u8) -> usize
     if number < 100 {
         return 2;
     }
-    3
+    if number < 1000 {
+        return 3;
+    }
+    if number < 10000 {
+        return 4;
+    }
+    5
 }
 
 pub(crate) fn put_byte(byte: u8, buffer: &mut [u8], to: usize) -> usize
@@ -71,19 +78,70 @@ pub(crate) fn put_letters(n: usize, values: &[u8], buffer: &mut [u8], to: usize)
     to + n
 }
 
-// The digits of a number.
-pub(crate) fn put_decimal(number: u8, buffer: &mut [u8], to: usize) -> usize
-    requires { ⌜ to + length (decimal number) ≤ length (now buffer) ⌝ }
+fn put_digit(digit: u16, buffer: &mut [u8], to: usize) -> usize
+    requires { ⌜ (digit < 10) × (to < length (now buffer)) ⌝ }
+    ensures { λ r. ⌜ Put (now (buffer .entry)) (now (buffer .exit)) to r (at digits digit ∷ []) ⌝ }
+{
+    put_byte(b'0' + digit as u8, buffer, to)
+}
+
+// The digits of a number that has at most three.
+fn put_short(number: u16, buffer: &mut [u8], to: usize) -> usize
+    requires { ⌜ (number < 1000) × (to + length (decimal number) ≤ length (now buffer)) ⌝ }
     ensures { λ r. ⌜ Put (now (buffer .entry)) (now (buffer .exit)) to r (decimal number) ⌝ }
 {
     if number < 10 {
-        return put_byte(b'0' + number, buffer, to);
+        return put_digit(number, buffer, to);
     }
     if number < 100 {
-        let a = put_byte(b'0' + number / 10, buffer, to);
-        return put_byte(b'0' + number % 10, buffer, a);
+        let a = put_digit(number / 10, buffer, to);
+        return put_digit(number % 10, buffer, a);
     }
-    let a = put_byte(b'0' + number / 100, buffer, to);
-    let b = put_byte(b'0' + number / 10 % 10, buffer, a);
-    put_byte(b'0' + number % 10, buffer, b)
+    let a = put_digit(number / 100, buffer, to);
+    let b = put_digit(number / 10 % 10, buffer, a);
+    put_digit(number % 10, buffer, b)
+}
+
+// The digits of a number: the hundreds, and two more.
+pub(crate) fn put_decimal(number: u16, buffer: &mut [u8], to: usize) -> usize
+    requires { ⌜ to + length (decimal number) ≤ length (now buffer) ⌝ }
+    ensures { λ r. ⌜ Put (now (buffer .entry)) (now (buffer .exit)) to r (decimal number) ⌝ }
+{
+    if number < 1000 {
+        return put_short(number, buffer, to);
+    }
+    let a = put_short(number / 100, buffer, to);
+    let b = put_digit(number / 10 % 10, buffer, a);
+    put_digit(number % 10, buffer, b)
+}
+
+// How many bytes the entries of a path take, each with what stands behind it.
+pub(crate) fn entries_size(path: &[u16]) -> usize
+    requires { ⌜ length (now path) ≤ mostStates ⌝ }
+    ensures { λ r. ⌜ r ≡ length (numbersPrint (now (path .entry))) ⌝ }
+{
+    let n = path.len();
+    let mut size: usize = 0;
+    let mut i: usize = 0;
+    while i < n {
+        size = size + decimal_size(path[i]) + 1;
+        i += 1;
+    }
+    size
+}
+
+// The entries of a path, up to the line's end.
+pub(crate) fn put_entries(path: &[u16], buffer: &mut [u8], to: usize) -> usize
+    requires { ⌜ to + length (numbersPrint (now path)) ≤ length (now buffer) ⌝ }
+    ensures { λ r. ⌜ Put (now (buffer .entry)) (now (buffer .exit)) to r (numbersPrint (now (path .entry))) ⌝ }
+{
+    let n = path.len();
+    let mut at = to;
+    let mut i: usize = 0;
+    while i < n {
+        let behind = put_decimal(path[i], buffer, at);
+        at = put_byte(kripke::signs::stop_before(n - (i + 1)), buffer, behind);
+        i += 1;
+    }
+    at
 }

@@ -11,3 +11,4 @@ pub mod Rest
 pub mod Least
 pub mod EndlessPaths
 pub mod OneAnswer
+pub mod Decimals

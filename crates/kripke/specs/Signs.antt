@@ -2,6 +2,7 @@
 use Prim.Native.Nat.{ℕ, zero, suc, _/_, _%_}
 use mathlib.Core.List.{List, [], _∷_, _++_}
 use mathlib.Core.Bool.{cond}
+use lib.ListN.{length}
 use lib.Dec.{ltb}
 use Rattle.lists.specs.Entries.{at}
 
@@ -29,3 +30,13 @@ numeral (suc k) n = cond (ltb n 10) (at digits n ∷ []) (numeral k (n / 10) ++ 
 -- a number up to 65,535 in decimal, no leading zeros
 abbrev pub decimal : ℕ → List ℕ
 decimal n = numeral 5 n
+
+-- what stands after a number of a line that has w more: a comma, or at the line's end a line feed
+abbrev pub stopBefore : ℕ → ℕ
+stopBefore zero = lineFeed
+stopBefore (suc w) = comma
+
+-- numbers up to the line's end
+unfoldable pub numbersPrint : List ℕ → List ℕ
+numbersPrint [] = []
+numbersPrint (n ∷ ns) = decimal n ++ (stopBefore (length ns) ∷ numbersPrint ns)

@@ -8,6 +8,7 @@ use lib.ListN.{length}
 use lib.Dec.{ltb, eqb}
 use borrow.Author.Tests.{eq-eqb, ne-eqb, lt-ltb, le-ltb, le-leb, ltb-true, ltb-false, eqb-true}
 use Rattle.lists.specs.Entries.{at}
+use Rattle.kripke.proofs.Decimals.{cap, numeral-more}
 use Rattle.kripke.specs.Signs.{decimal, digits, numeral}
 use Rattle.text.specs.Readers.{placeOf, mayGrow, numberFrom, number}
 use Rattle.text.specs.Readers.Reading.{found}
@@ -42,11 +43,6 @@ digits-apart : Apart digits
 unfolding placeOf
 digits-apart = (refl, (refl, (refl, (refl, (refl, (refl, (refl, (refl, (refl, (refl, tt))))))))))
 
--- 10 to the k
-abbrev cap : ℕ → ℕ
-cap zero = 1
-cap (suc k) = cap k * 10
-
 module _ (stop : ℕ) (other : placeOf digits stop ≡ 10) where
   one-digit : (m : ℕ) (t : List ℕ) → m < 10 → number stop (at digits m ∷ t) ≡ numberFrom stop m t
   unfolding number
@@ -73,12 +69,6 @@ module _ (stop : ℕ) (other : placeOf digits stop ≡ 10) where
   pub number-reads : (m : ℕ) (t : List ℕ) → m ≤ 65535 → number stop (decimal m ++ (stop ∷ t)) ≡ found m t
   unfolding numberFrom
   number-reads m t b = number-digits 4 m (stop ∷ t) (omega arith) b ∙ simp (numberFrom, eq-eqb stop stop refl)
-
--- a number of fewer digits is printed the same
-numeral-more : (k m : ℕ) → m < cap (suc k) → numeral (suc k) m ≡ numeral (suc (suc k)) m
-unfolding numeral
-numeral-more zero m h = simp (lt-ltb m 10 (omega arith))
-numeral-more (suc k) m h = ap (λ (l : List ℕ). cond (ltb m 10) (at digits m ∷ []) (l ++ (at digits (m % 10) ∷ []))) (numeral-more k (m / 10) (omega arith))
 
 decimal-grown : (a c : ℕ) → mayGrow a (placeOf digits c) ≡ true → decimal (a * 10 + placeOf digits c) ≡ decimal a ++ (c ∷ [])
 unfolding numeral

@@ -6,8 +6,8 @@ use mathlib.Core.Bool.{Bool, true, false, cond, _&&_}
 use lib.Dec.{leb, eqb}
 use borrow.Author.Tests.{eq-eqb, le-leb, leb-true, eqb-true}
 use Rattle.lists.specs.Entries.{at}
-use Rattle.kripke.specs.Signs.{decimal, digits, lineFeed}
-use Rattle.text.specs.Readers.{Reading, Reader, on, give, exactly, placeOf, number, stopBefore, within, countLine}
+use Rattle.kripke.specs.Signs.{decimal, digits, lineFeed, stopBefore}
+use Rattle.text.specs.Readers.{Reading, Reader, on, give, exactly, placeOf, number, within, countLine}
 use Rattle.text.specs.Readers.Reading.{found, refused}
 use Rattle.text.specs.Print.{countPrint, Count}
 use Rattle.text.proofs.Steps.{both}

@@ -10,10 +10,10 @@ use lib.Seq.{length-take-le, take-at, drop-at}
 use lib.Dec.{ltb}
 use borrow.Author.Tests.{lt-ltb, ltb-true}
 use Rattle.lists.specs.Entries.{at, All}
-use Rattle.kripke.specs.Signs.{decimal, lineFeed}
-use Rattle.text.specs.Readers.{Reader, on, give, exactly, placeOf, number, symbol, symbols, stopBefore, numbers, rowLine, numbersLine, lines}
+use Rattle.kripke.specs.Signs.{decimal, lineFeed, numbersPrint, stopBefore}
+use Rattle.text.specs.Readers.{Reader, on, give, exactly, placeOf, number, symbol, symbols, numbers, rowLine, numbersLine, lines}
 use Rattle.text.specs.Readers.Reading.{found}
-use Rattle.text.specs.Print.{rowPrint, numbersPrint, linePrint, linesPrint, Values}
+use Rattle.text.specs.Print.{rowPrint, linePrint, linesPrint, Values}
 use Rattle.text.proofs.Readings.{found-same, ends-found, refused-found, through}
 use Rattle.text.proofs.Decimal.{Apart, place-sign, sign-place, number-reads, number-back}
 use Rattle.text.proofs.Inverse.{Reads, next, given, said, exactly-inverse, stop-apart}

@@ -8,8 +8,8 @@ use lib.ListN.{length}
 use lib.Dec.{ltb, leb, eqb}
 use Rattle.lists.specs.Entries.{at}
 use Rattle.kripke.specs.Limits.{mostStates, mostAtoms, mostTransitions, mostNodes, mostText}
-use Rattle.kripke.specs.Signs.{digits, letters, lineFeed}
-use Rattle.text.specs.Readers.{Reading, Reader, on, exactly, placeOf, mayGrow, numberFrom, number, symbol, symbols, stopBefore, numbers, within, countLine, rowLine, numbersLine, lines, end}
+use Rattle.kripke.specs.Signs.{digits, letters, lineFeed, stopBefore}
+use Rattle.text.specs.Readers.{Reading, Reader, on, exactly, placeOf, mayGrow, numberFrom, number, symbol, symbols, numbers, within, countLine, rowLine, numbersLine, lines, end}
 use Rattle.text.specs.Readers.Reading.{found, ends, refused}
 use Rattle.text.specs.Form.{Model, rowsText, labelledText, listedText, listsText, modelText, keyStates, keyAtoms, keyInit, keyLabel, keyEdges, keyEdge, keyNodes, keyNode, bits}
 use Rattle.text.specs.Promise.{refusals, anyShort, Tables, Outcome, settled, textOutcome, outcome, numberDue, countsDue, ModelRead}

@@ -6,8 +6,8 @@ use mathlib.Core.List.{List, [], _∷_, _++_}
 use mathlib.Core.Bool.{Bool, true, false, cond, _&&_}
 use lib.ListN.{length}
 use lib.Dec.{ltb, leb, eqb}
-use Rattle.kripke.specs.Signs.{digits, lineFeed}
-use Rattle.text.specs.Readers.{Reading, Reader, on, exactly, placeOf, mayGrow, numberFrom, number, symbol, symbols, stopBefore, numbers, within, countLine, rowLine, numbersLine, lines}
+use Rattle.kripke.specs.Signs.{digits, lineFeed, stopBefore}
+use Rattle.text.specs.Readers.{Reading, Reader, on, exactly, placeOf, mayGrow, numberFrom, number, symbol, symbols, numbers, within, countLine, rowLine, numbersLine, lines}
 use Rattle.text.specs.Readers.Reading.{found, ends, refused}
 
 -- o is what was read of a text, q of that text with t after it

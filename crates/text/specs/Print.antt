@@ -5,8 +5,7 @@ use mathlib.Core.List.{List, [], _∷_, _++_, map}
 use lib.ListN.{length, take, drop}
 use Rattle.lists.specs.Entries.{at, All}
 use Rattle.kripke.specs.Limits.{mostStates, mostAtoms, mostTransitions, mostNodes}
-use Rattle.kripke.specs.Signs.{decimal, letters, lineFeed}
-use Rattle.text.specs.Readers.{stopBefore}
+use Rattle.kripke.specs.Signs.{decimal, letters, lineFeed, numbersPrint}
 use Rattle.text.specs.Promise.{Tables, countsDue, tablesDue}
 use Rattle.text.specs.Promise.Outcome.{model}
 use Rattle.text.specs.Form.{Labelled, Listed, Model, keyStates, keyAtoms, keyInit, keyLabel, keyEdges, keyEdge, keyNodes, keyNode, bits}
@@ -18,11 +17,6 @@ countPrint k n = k ++ (decimal n ++ (lineFeed ∷ []))
 -- a line key=symbols, the sign of each value
 abbrev pub rowPrint : List ℕ → List ℕ → List ℕ → List ℕ
 rowPrint k signs vs = k ++ (map (at signs) vs ++ (lineFeed ∷ []))
-
--- numbers up to the line's end
-unfoldable pub numbersPrint : List ℕ → List ℕ
-numbersPrint [] = []
-numbersPrint (n ∷ ns) = decimal n ++ (stopBefore (length ns) ∷ numbersPrint ns)
 
 -- a line of numbers
 abbrev pub linePrint : List ℕ → List ℕ → List ℕ

@@ -5,7 +5,7 @@ use mathlib.Core.List.{List, [], _∷_, _++_}
 use mathlib.Core.Bool.{Bool, cond, _&&_}
 use lib.ListN.{length}
 use lib.Dec.{ltb, leb, eqb}
-use Rattle.kripke.specs.Signs.{comma, digits, lineFeed}
+use Rattle.kripke.specs.Signs.{digits, lineFeed, stopBefore}
 
 -- what reading comes to
 pub data Reading (A : Type 0) : Type 0 where
@@ -73,11 +73,6 @@ symbols signs (suc n) = do
   v ← symbol signs
   vs ← symbols signs n
   give (v ∷ vs)
-
--- what stands after a number of a line that has w more: a comma, or at the line's end a line feed
-abbrev pub stopBefore : ℕ → ℕ
-stopBefore zero = lineFeed
-stopBefore (suc w) = comma
 
 -- w numbers, up to the line's end
 unfoldable pub numbers : ℕ → Reader (List ℕ)

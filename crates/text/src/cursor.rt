@@ -3,7 +3,7 @@ ghost use mathlib.Core.Path.{_≡_};
 ghost use Prim.Native.Nat.{_+_, _≤_};
 ghost use lib.ListN.{length, take, drop};
 ghost use Rattle.kripke.specs.Signs.{digits};
-ghost use Rattle.text.specs.Readers.{exactly, number, placeOf, mayGrow, symbols, stopBefore, numbers};
+ghost use Rattle.text.specs.Readers.{exactly, number, placeOf, mayGrow, symbols, numbers};
 ghost use Rattle.text.specs.Inside.{told, nothing, first, bare};
 
 pub struct Cursor {
@@ -55,13 +55,6 @@ fn may_grow(n: u32, d: u32) -> bool
         return false;
     }
     n * 10 + d <= 65535
-}
-
-// What stands after a number of a line that has left more.
-fn stop_before(left: usize) -> u8
-    ensures { λ r. ⌜ r ≡ stopBefore left ⌝ }
-{
-    if left == 0 { b'\n' } else { b',' }
 }
 
 impl Cursor {
@@ -143,7 +136,7 @@ impl Cursor {
         let mut c = self;
         let mut j = 0;
         while j < w {
-            let line = c.number(text, stop_before(w - (j + 1)));
+            let line = c.number(text, kripke::signs::stop_before(w - (j + 1)));
             let Line::Read(n, _, next) = line else {
                 return line;
             };

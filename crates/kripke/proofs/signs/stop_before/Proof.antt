@@ -2,10 +2,9 @@
 use borrow.Author.Needs.{needs}
 use Prim.Native.Nat.{ℕ, zero, suc}
 use mathlib.Core.Path.{_≡_, refl}
-use Rattle.kripke.specs.Signs.{comma}
-use Rattle.text.specs.Readers.{stopBefore}
-use Rattle.text.proofs.cursor.stop_before.Statement.{statement}
-use Rattle.text.proofs.cursor.stop_before.Tie as tie
+use Rattle.kripke.specs.Signs.{comma, stopBefore}
+use Rattle.kripke.proofs.signs.stop_before.Statement.{statement}
+use Rattle.kripke.proofs.signs.stop_before.Tie as tie
 
 some : (left : ℕ) → (left ≡ 0 → ⊥) → comma ≡ stopBefore left
 some zero h = absurd (h refl)
