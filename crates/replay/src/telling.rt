@@ -1,4 +1,7 @@
 // Answers of the path calls, written out.
+use answer::MOST_LINE;
+use answer::MOST_PATH_LINE;
+use answer::Written;
 use libc::STDOUT_FILENO;
 use paths::CheckAnswer;
 use paths::FirstAnswer;
@@ -7,39 +10,23 @@ use paths::NextAnswer;
 // How many paths are told before the rest is left at `more`.
 const MOST_TOLD: usize = 200;
 
+// A line that a writer put at the front of a buffer.
+fn put_line(written: Written, line: &[u8]) {
+    if let Written::Bytes(n) = written {
+        crate::put(line, n);
+    }
+}
+
 pub(crate) fn refused(number: u8) {
-    io::write_all(STDOUT_FILENO, b"answer=");
-    io::print_decimal(STDOUT_FILENO, number as u64);
-    io::write_all(STDOUT_FILENO, b"\n");
-}
-
-fn put_number(number: u16) {
-    io::print_decimal(STDOUT_FILENO, number as u64);
-}
-
-// Entry i of a list, a comma before each but the first.
-fn entry(list: &[u16], i: usize) {
-    if list.len() <= i {
-        return;
-    }
-    if 0 < i {
-        io::write_all(STDOUT_FILENO, b",");
-    }
-    put_number(list[i]);
-}
-
-fn entries(list: &[u16]) {
-    let mut i: usize = 0;
-    while i < list.len() {
-        entry(list, i);
-        i += 1;
-    }
+    let mut line = [0u8; MOST_LINE];
+    let written = answer::write_number(number, &mut line);
+    put_line(written, &line);
 }
 
 pub(crate) fn path(list: &[u16]) {
-    io::write_all(STDOUT_FILENO, b"path=");
-    entries(list);
-    io::write_all(STDOUT_FILENO, b"\n");
+    let mut line = [0u8; MOST_PATH_LINE];
+    let written = answer::write_path(list, &mut line);
+    put_line(written, &line);
 }
 
 // A list told, and the next path asked for in its place; false where that was the last, with how it ended.

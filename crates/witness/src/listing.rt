@@ -1,4 +1,7 @@
 // The shortest witnesses, written as they come: `path=` lines and then `end`; `none`; `more` where the rest is cut off.
+use answer::MOST_LINE;
+use answer::MOST_PATH_LINE;
+use answer::Written;
 use kripke::limits::MOST_STATES;
 use libc::STDOUT_FILENO;
 use paths::FirstAnswer;
@@ -8,33 +11,25 @@ pub(crate) fn put(bytes: &[u8]) {
     io::write_all(STDOUT_FILENO, bytes);
 }
 
-pub(crate) fn refused(number: u8) {
-    put(b"answer=");
-    io::print_decimal(STDOUT_FILENO, number as u64);
-    put(b"\n");
-}
-
-fn put_number(number: u16) {
-    io::print_decimal(STDOUT_FILENO, number as u64);
-}
-
-// The entries from the second on, a comma before each.
-fn put_rest(path: &[u16]) {
-    let mut i: usize = 1;
-    while i < path.len() {
-        put(b",");
-        put_number(path[i]);
-        i += 1;
+// A line that a writer put at the front of a buffer.
+fn put_line(written: Written, line: &[u8]) {
+    if let Written::Bytes(n) = written {
+        if n <= line.len() {
+            put(&line[..n]);
+        }
     }
+}
+
+pub(crate) fn refused(number: u8) {
+    let mut line = [0u8; MOST_LINE];
+    let written = answer::write_number(number, &mut line);
+    put_line(written, &line);
 }
 
 fn put_path(path: &[u16]) {
-    put(b"path=");
-    if 0 < path.len() {
-        put_number(path[0]);
-    }
-    put_rest(path);
-    put(b"\n");
+    let mut line = [0u8; MOST_PATH_LINE];
+    let written = answer::write_path(path, &mut line);
+    put_line(written, &line);
 }
 
 // What Next says, and whether it gave another path.
