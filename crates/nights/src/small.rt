@@ -66,7 +66,10 @@ pub(crate) fn seven_states() {
     let mut transitions = [PATTERN_NUMBER; MOST_TRANSITION_NUMBERS];
     let mut nodes = [PATTERN_NUMBER; MOST_NODE_NUMBERS];
     text::read_model(
-        b"states=7\natoms=4\ninit=1000000\nlabel=TTTT\nlabel=TTUF\nlabel=UFFT\nlabel=UUTF\nlabel=FTTU\nlabel=TTTF\nlabel=TUUF\nedges=7\nedge=0,1\nedge=1,4\nedge=2,0\nedge=3,0\nedge=4,5\nedge=5,6\nedge=6,5\nnodes=9\nnode=1,0,0\nnode=1,1,0\nnode=1,2,0\nnode=1,3,0\nnode=3,0,1\nnode=2,4,0\nnode=3,2,3\nnode=4,6,0\nnode=3,5,7\n",
+        b"states=7\natoms=4\ninit=1000000\n\
+          label=TTTT\nlabel=TTUF\nlabel=UFFT\nlabel=UUTF\nlabel=FTTU\nlabel=TTTF\nlabel=TUUF\n\
+          edges=7\nedge=0,1\nedge=1,4\nedge=2,0\nedge=3,0\nedge=4,5\nedge=5,6\nedge=6,5\n\
+          nodes=9\nnode=1,0,0\nnode=1,1,0\nnode=1,2,0\nnode=1,3,0\nnode=3,0,1\nnode=2,4,0\nnode=3,2,3\nnode=4,6,0\nnode=3,5,7\n",
         &mut labels,
         &mut initial,
         &mut transitions,
