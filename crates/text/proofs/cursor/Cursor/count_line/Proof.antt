@@ -1,6 +1,7 @@
 -- `count_line` meets its contract. The key, the number, and then its range: each step by the answer before it.
 use borrow.Author.Needs.{needs}
-use mathlib.Core.Path.{sym, _∙_}
+use mathlib.Core.Path.{_≡_, sym, _∙_}
+use lib.ListN.{drop}
 use denote.Ref.{now}
 use borrow.Author.Tests.{le-leb, lt-leb}
 use Rattle.text.specs.Readers.{exactly, number, within, countLine}
@@ -38,32 +39,29 @@ returns-2 c =
 cast-n : tie.Need-cast-n
 cast-n c = search needs
 
+-- once the line was read, its form is judged, and its range is left
+ranged : (c : tie.After-known-told2)
+    → let a = c .before .before .before .before .before .before .before .before .before .before .args in
+    let g = c .before .counted .given .0 in
+    countLine (now (a .key)) (a .least) (a .most) (a .refusal) (drop (a .self .at) (now (a .text))) ≡ within (a .least) (a .most) (a .refusal) (g .0) (drop (g .1 .1 .0 .at) (now (a .text)))
+unfolding countLine
+ranged c =
+    let s = now (c .before .before .before .before .before .before .before .before .before .before .args .text) in
+    let e = c .before .before .before .before .before .before .before .exactly in
+    let n = c .before .before .before .number in
+    went nothing _ s (e .result) _ (e .ensures) (c .before .before .before .before .before .past .given .1) ∙ went first _ s (n .result) _ (n .ensures) (c .before .counted .given .1)
+
 returns-3 : tie.Need-returns-3
-unfolding countLine within
-returns-3 c =
-    let s = now (c .before .before .before .before .before .before .before .before .before .before .before .args .text) in
-    let e = c .before .before .before .before .before .before .before .before .exactly in
-    let n = c .before .before .before .before .number in
-    sym (went nothing _ s (e .result) _ (e .ensures) (c .before .before .before .before .before .before .past .given .1) ∙ went first _ s (n .result) _ (n .ensures) (c .before .before .counted .given .1)
-    ∙ simp (lt-leb _ _ (c .if1 .taken)))
+unfolding within
+returns-3 c = sym (ranged (c .before) ∙ simp (lt-leb _ _ (c .if1 .taken)))
 
 returns-4 : tie.Need-returns-4
-unfolding countLine within
-returns-4 c =
-    let s = now (c .before .before .before .before .before .before .before .before .before .before .before .before .args .text) in
-    let e = c .before .before .before .before .before .before .before .before .before .exactly in
-    let n = c .before .before .before .before .before .number in
-    sym (went nothing _ s (e .result) _ (e .ensures) (c .before .before .before .before .before .before .before .past .given .1) ∙ went first _ s (n .result) _ (n .ensures) (c .before .before .before .counted .given .1)
-    ∙ simp (le-leb _ _ (c .before .if1 .left), lt-leb _ _ (c .if2 .taken)))
+unfolding within
+returns-4 c = sym (ranged (c .before .before) ∙ simp (le-leb _ _ (c .before .if1 .left), lt-leb _ _ (c .if2 .taken)))
 
 returns-5 : tie.Need-returns-5
-unfolding countLine within
-returns-5 c =
-    let s = now (c .before .before .before .before .before .before .before .before .before .before .before .before .args .text) in
-    let e = c .before .before .before .before .before .before .before .before .before .exactly in
-    let n = c .before .before .before .before .before .number in
-    sym (went nothing _ s (e .result) _ (e .ensures) (c .before .before .before .before .before .before .before .past .given .1) ∙ went first _ s (n .result) _ (n .ensures) (c .before .before .before .counted .given .1)
-    ∙ simp (le-leb _ _ (c .before .if1 .left), le-leb _ _ (c .if2 .left)))
+unfolding within
+returns-5 c = sym (ranged (c .before .before) ∙ simp (le-leb _ _ (c .before .if1 .left), le-leb _ _ (c .if2 .left)))
 
 pub count-line-spec : {M : Type 1} → statement M
 count-line-spec =

@@ -1,8 +1,10 @@
 -- `lists` meets its contract. The transitions, the nodes and the end, each by the answer before it.
 use borrow.Author.Needs.{needs}
-use mathlib.Core.Path.{sym, _∙_}
+use mathlib.Core.Path.{_≡_, sym, _∙_}
+use lib.ListN.{drop}
 use denote.Ref.{now}
-use Rattle.text.specs.Form.{listsText}
+use Rattle.text.specs.Readers.{on, give, end}
+use Rattle.text.specs.Form.{Labelled, listsText}
 use Rattle.text.specs.Inside.{listedIn, listsIn}
 use Rattle.text.proofs.Steps.{end-done, end-broken}
 use Rattle.text.proofs.Answers.{stopped, went}
@@ -61,6 +63,21 @@ returns-2 c =
     let g = c .before .before .before .before .before .before .before .before .first .given in
     λ l. stopped (listedIn 3 N) (listsIn l T N) _ s (y .result) _ (y .ensures) (c .match2 .keys2) ∙ sym (went (listedIn 2 T) _ s (x .result) _ (x .ensures) (g .1))
 
+-- once both lists were read, the end is left
+ended : (c : tie.After-known-told2) (l : Labelled)
+    → let s = now (c .before .before .before .before .before .before .before .before .before .before .before .before .before .before .before .before .before .before .before .before .before .args .text) in
+    let T = c .before .before .before .before .before .before .before .before .before .before .before .before .before .before .listed .last .1 .1 .1 .1 .1 .1 .1 .0 in
+    let N = c .before .before .before .before .before .listed2 .last .1 .1 .1 .1 .1 .1 .1 .0 in
+    let g = c .before .before .before .before .before .before .before .before .before .before .first .given .0 in
+    let h = c .before .second .given .0 in
+    listsText l (drop (c .before .before .before .before .before .before .before .before .before .before .before .before .before .before .before .before .before .before .before .before .before .args .self .at) s) ≡ on (end (drop (h .1 .1 .0 .at) s)) (λ u. give (record { labelled = l; transitions = listedIn 2 T (g .0) (g .1 .0); nodes = listedIn 3 N (h .0) (h .1 .0) }))
+unfolding listsText
+ended c l =
+    let s = now (c .before .before .before .before .before .before .before .before .before .before .before .before .before .before .before .before .before .before .before .before .before .args .text) in
+    let x = c .before .before .before .before .before .before .before .before .before .before .before .before .before .before .listed in
+    let y = c .before .before .before .before .before .listed2 in
+    went (listedIn 2 (x .last .1 .1 .1 .1 .1 .1 .1 .0)) _ s (x .result) _ (x .ensures) (c .before .before .before .before .before .before .before .before .before .before .first .given .1) ∙ went (listedIn 3 (y .last .1 .1 .1 .1 .1 .1 .1 .0)) _ s (y .result) _ (y .ensures) (c .before .second .given .1)
+
 same-length-4 : tie.Need-same-length-4
 same-length-4 c = search needs
 
@@ -68,17 +85,7 @@ same-length-5 : tie.Need-same-length-5
 same-length-5 c = search needs
 
 returns-3 : tie.Need-returns-3
-unfolding listsText
-returns-3 c =
-    let s = now (c .before .before .before .before .before .before .before .before .before .before .before .before .before .before .before .before .before .before .before .before .before .before .args .text) in
-    let x = c .before .before .before .before .before .before .before .before .before .before .before .before .before .before .before .listed in
-    let T = x .last .1 .1 .1 .1 .1 .1 .1 .0 in
-    let y = c .before .before .before .before .before .before .listed2 in
-    let N = y .last .1 .1 .1 .1 .1 .1 .1 .0 in
-    let g = c .before .before .before .before .before .before .before .before .before .before .before .first .given in
-    let h = c .before .before .second .given in
-    λ l. sym (went (listedIn 2 T) _ s (x .result) _ (x .ensures) (g .1) ∙ went (listedIn 3 N) _ s (y .result) _ (y .ensures) (h .1)
-    ∙ end-broken _ s (h .0 .1 .1 .0 .at) (c .if1 .taken))
+returns-3 c = λ l. sym (ended (c .before) l ∙ end-broken _ _ (c .before .before .second .given .0 .1 .1 .0 .at) (c .if1 .taken))
 
 same-length-6 : tie.Need-same-length-6
 same-length-6 c = search needs
@@ -87,17 +94,7 @@ same-length-7 : tie.Need-same-length-7
 same-length-7 c = search needs
 
 returns-4 : tie.Need-returns-4
-unfolding listsText
-returns-4 c =
-    let s = now (c .before .before .before .before .before .before .before .before .before .before .before .before .before .before .before .before .before .before .before .before .before .before .args .text) in
-    let x = c .before .before .before .before .before .before .before .before .before .before .before .before .before .before .before .listed in
-    let T = x .last .1 .1 .1 .1 .1 .1 .1 .0 in
-    let y = c .before .before .before .before .before .before .listed2 in
-    let N = y .last .1 .1 .1 .1 .1 .1 .1 .0 in
-    let g = c .before .before .before .before .before .before .before .before .before .before .before .first .given in
-    let h = c .before .before .second .given in
-    λ l. sym (went (listedIn 2 T) _ s (x .result) _ (x .ensures) (g .1) ∙ went (listedIn 3 N) _ s (y .result) _ (y .ensures) (h .1)
-    ∙ end-done _ s (h .0 .1 .1 .0 .at) (c .if1 .left))
+returns-4 c = λ l. sym (ended (c .before) l ∙ end-done _ _ (c .before .before .second .given .0 .1 .1 .0 .at) (c .if1 .left))
 
 pub lists-spec : {M : Type 1} → statement M
 lists-spec =
