@@ -1,7 +1,6 @@
 pub mod KindLaws
 pub mod Copies
 pub mod Scan
-pub mod Lowest
 pub mod Operands
 pub mod Spaces
 pub mod NodeLists
@@ -11,5 +10,6 @@ pub mod OverInitial
 pub mod UntilRows
 pub mod FineRows
 pub mod JudgeLaws
+pub mod Held
 pub mod OneAnswer
 pub mod Unknowns

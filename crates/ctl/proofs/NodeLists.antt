@@ -5,9 +5,10 @@ use mathlib.Core.List.{List, [], _∷_, _++_}
 use native.Mathlib.Omega.{arith}
 use lib.ListN.{length, getD, take, drop, length-append, List·getD-append}
 use lib.Seq.{drop-cons, getD-at, length-take-le, take-length, take-add}
-use Rattle.ctl.specs.Nodes.{Model, kindOf, nodeRow}
-use Rattle.ctl.specs.Refusals.{kindAt, leftAt, rightAt}
-use Rattle.ctl.specs.Rows.{nodeCount, rowsFrom, rowsOf}
+use Rattle.model.specs.Model.{Model, kindAt, leftAt, rightAt, nodeCount}
+use Rattle.model.specs.Kinds.{kindOf}
+use Rattle.ctl.specs.Nodes.{nodeRow}
+use Rattle.ctl.specs.Rows.{rowsFrom}
 
 -- three numbers from a place on
 take-three : (ns : List ℕ) (i : ℕ) → i < nodeCount ns → take (3 * (i + 1)) ns ≡ take (3 * i) ns ++ (kindAt ns i ∷ leftAt ns i ∷ rightAt ns i ∷ [])
@@ -48,25 +49,23 @@ rows-length m (suc n) rows (x ∷ y ∷ z ∷ xs) e =
 module _ (m : Model) (ns : List ℕ) where
   -- the rows of the first i nodes
   abbrev pub firstRows : ℕ → List (List ℕ)
-  firstRows i = rowsOf m (take (3 * i) ns)
+  firstRows i = rowsFrom m [] (take (3 * i) ns)
 
   first-size : (i : ℕ) → i ≤ nodeCount ns → length (take (3 * i) ns) ≡ 3 * i
   first-size i h = length-take-le (3 * i) ns (omega arith)
 
   pub rows-count : (i : ℕ) → i ≤ nodeCount ns → length (firstRows i) ≡ i
-  unfolding rowsOf
   rows-count i h = rows-length m i [] (take (3 * i) ns) (first-size i h) ∙ omega arith
 
   pub rows-next : (i : ℕ) → i < nodeCount ns → firstRows (i + 1) ≡ firstRows i ++ (rowMore m (firstRows i) (kindAt ns i) (leftAt ns i) (rightAt ns i) ∷ [])
-  unfolding rowsOf
   rows-next i h = ap (rowsFrom m []) (take-three ns i h) ∙ rows-append m i [] (take (3 * i) ns) (kindAt ns i) (leftAt ns i) (rightAt ns i) (first-size i (omega arith))
 
   pub rows-none : firstRows 0 ≡ []
-  unfolding rowsOf rowsFrom
+  unfolding rowsFrom
   rows-none = let e : 3 * 0 ≡ 0 = omega arith in ap (λ (k : ℕ). rowsFrom m [] (take k ns)) e
 
-  pub rows-whole : length ns % 3 ≡ 0 → firstRows (nodeCount ns) ≡ rowsOf m ns
-  rows-whole h = let e : 3 * nodeCount ns ≡ length ns = omega arith in ap (rowsOf m) (ap (λ (k : ℕ). take k ns) e ∙ take-length ns)
+  pub rows-whole : length ns % 3 ≡ 0 → firstRows (nodeCount ns) ≡ rowsFrom m [] ns
+  rows-whole h = let e : 3 * nodeCount ns ≡ length ns = omega arith in ap (rowsFrom m []) (ap (λ (k : ℕ). take k ns) e ∙ take-length ns)
 
   -- a row once made stays, whatever nodes follow
   pub rows-stay : (d i j : ℕ) → i + d ≤ nodeCount ns → j < i → getD (firstRows (i + d)) j [] ≡ getD (firstRows i) j []
@@ -79,13 +78,13 @@ module _ (m : Model) (ns : List ℕ) where
       ∙ rows-stay d i j (omega arith) l
 
   -- so the row of node k is made from the rows of its operands, which come before it
-  pub row-of-node : length ns % 3 ≡ 0 → (k : ℕ) → k < nodeCount ns → leftAt ns k < k → rightAt ns k < k → getD (rowsOf m ns) k [] ≡ nodeRow m (kindOf (kindAt ns k)) (leftAt ns k) (getD (rowsOf m ns) (leftAt ns k) []) (getD (rowsOf m ns) (rightAt ns k) [])
+  pub row-of-node : length ns % 3 ≡ 0 → (k : ℕ) → k < nodeCount ns → leftAt ns k < k → rightAt ns k < k → getD (rowsFrom m [] ns) k [] ≡ nodeRow m (kindOf (kindAt ns k)) (leftAt ns k) (getD (rowsFrom m [] ns) (leftAt ns k) []) (getD (rowsFrom m [] ns) (rightAt ns k) [])
   unfolding rowMore
   row-of-node triples k h a b =
       let n : ℕ = nodeCount ns in
       let rest : k + 1 + (n - (k + 1)) ≡ n = omega arith in
       let rest′ : k + (n - k) ≡ n = omega arith in
-      let here : (j : ℕ) → j < k → getD (rowsOf m ns) j [] ≡ getD (firstRows k) j [] = λ j l. ap (λ (rs : List (List ℕ)). getD rs j []) (sym (rows-whole triples)) ∙ ap (λ (i : ℕ). getD (firstRows i) j []) (sym rest′) ∙ rows-stay (n - k) k j (omega arith) l in
+      let here : (j : ℕ) → j < k → getD (rowsFrom m [] ns) j [] ≡ getD (firstRows k) j [] = λ j l. ap (λ (rs : List (List ℕ)). getD rs j []) (sym (rows-whole triples)) ∙ ap (λ (i : ℕ). getD (firstRows i) j []) (sym rest′) ∙ rows-stay (n - k) k j (omega arith) l in
       ap (λ (rs : List (List ℕ)). getD rs k []) (sym (rows-whole triples))
       ∙ ap (λ (i : ℕ). getD (firstRows i) k []) (sym rest)
       ∙ rows-stay (n - (k + 1)) (k + 1) k (omega arith) (omega arith)

@@ -8,14 +8,14 @@ use native.Mathlib.Nat.{mul-le-mul-right}
 use lib.ListN.{take, drop, replicate, length-replicate}
 use lib.Dec.{leb}
 use borrow.Author.Tests.{lt-ltb, le-ltb, le-leb}
-use Rattle.ctl.specs.Inside.{OperandRead, RowsFit, operandRow, rowBytes}
-use Rattle.kripke.specs.Answers.{rowRead}
-use Rattle.kripke.specs.Limits.{mostStates}
-use Rattle.kripke.specs.Rows.{badRow, rowBegin, rowSize, rowValues}
+use Rattle.ctl.specs.Inside.{OperandRead, RowsFit, operandRow}
+use Rattle.values.specs.Answers.{rowRead}
+use Rattle.values.specs.Limits.{mostStates}
+use Rattle.values.specs.Rows.{badRow, rowBegin, rowIn, rowSize, rowValues}
 use Rattle.lists.specs.Entries.{at}
-use Rattle.kripke.proofs.StoredRows.{row-read}
+use Rattle.values.proofs.StoredRows.{row-read}
 use Rattle.lists.proofs.Tests.{and-both}
-use Rattle.kripke.specs.declared.rows.Row.{Row}
+use Rattle.values.specs.declared.rows.Row.{Row}
 
 zero-at : (n s : ℕ) → at (replicate n 0) s ≡ 0
 zero-at zero s = refl
@@ -33,7 +33,7 @@ pub operand-none : (S : ℕ) (space : List ℕ) (i k : ℕ) → i ≤ k → Oper
 unfolding operandRow
 operand-none S space i k h = record { long = length-replicate {A = ℕ} mostStates 0; here = λ s. zero-at mostStates s ∙ rw (le-ltb k i h) }
 
-pub operand-row : (S : ℕ) (space : List ℕ) (i k : ℕ) → RowsFit S i space → k < i → (r : Row) (bytes : List ℕ) → bytes ≡ rowBytes S k space → r ≡ rowRead S bytes → OperandRead S space i k (r .values)
+pub operand-row : (S : ℕ) (space : List ℕ) (i k : ℕ) → RowsFit S i space → k < i → (r : Row) (bytes : List ℕ) → bytes ≡ rowIn S space k → r ≡ rowRead S bytes → OperandRead S space i k (r .values)
 unfolding operandRow rowRead
 operand-row S space i k fit h r bytes b e =
     let fine : badRow S bytes ≡ false = ap (badRow S) b ∙ fit .stand k h in
@@ -45,8 +45,8 @@ operand-row S space i k fit h r bytes b e =
     }
 
 -- the part that is lent holds the row's bytes
-pub operand-bytes : (S : ℕ) (space : List ℕ) (k size : ℕ) → size ≡ rowSize S → take (k * size + size - k * size) (drop (k * size) space) ≡ rowBytes S k space
-unfolding rowBytes rowBegin
+pub operand-bytes : (S : ℕ) (space : List ℕ) (k size : ℕ) → size ≡ rowSize S → take (k * size + size - k * size) (drop (k * size) space) ≡ rowIn S space k
+unfolding rowIn rowBegin
 operand-bytes S space k size e =
     let q : k * size + size - k * size ≡ size = omega arith in
     ap (λ (n : ℕ). take n (drop (k * size) space)) q ∙ ap (λ (n : ℕ). take n (drop (k * n) space)) e

@@ -6,13 +6,14 @@ use mathlib.Core.Bool.{true, false}
 use mathlib.Core.Logic.{⊎-elim}
 use native.Mathlib.Omega.{arith}
 use lib.ListN.{length, getD, length-append, List·getD-eq-default}
-use Rattle.ctl.specs.Answers.{modelOf}
-use Rattle.ctl.specs.Nodes.{AND, ATOM, AU, EU, EX, Kind, NOT, TRUE, kindOf, nodeRow, nodeValue}
-use Rattle.ctl.specs.Rows.{rowsFrom, rowsOf}
-use Rattle.kripke.specs.Values.{neg, top}
+use Rattle.model.specs.Labels.{withLabels}
+use Rattle.model.specs.Model.{Model}
+use Rattle.model.specs.Kinds.{AND, ATOM, AU, EU, EX, Kind, NOT, TRUE, kindOf}
+use Rattle.ctl.specs.Nodes.{nodeRow, nodeValue}
+use Rattle.ctl.specs.Rows.{rowsFrom}
+use Rattle.values.specs.Values.{neg, top}
 use Rattle.lists.specs.Entries.{at}
 use Rattle.lists.specs.Rows.{tab}
-use Rattle.kripke.proofs.Least.{least}
 use Rattle.kripke.proofs.Related.{Kept, RowRelated, next-related, until-related}
 use Rattle.lists.proofs.Numbers.{lt-or-le}
 use Rattle.lists.proofs.Rows.{length-tab, tab-at}
@@ -47,29 +48,28 @@ module _ (Rel : ℕ → ℕ → Type 0) (K : Kleene Rel) where
       go (u ∷ xs) (v ∷ ys) e r zero s = r 0 s
       go (u ∷ xs) (v ∷ ys) e r (suc k) s = go xs ys (omega arith) (λ k s. r (suc k) s) k s
 
-  module _ (S A : ℕ) (es labels labels′ : List ℕ) (lab : (i : ℕ) → Rel (at labels i) (at labels′ i)) where
-    pub node-related : (k : Kind) (a : ℕ) (L M R Q : List ℕ) → RowRelated Rel (K .kept) L M → RowRelated Rel (K .kept) R Q → (s : ℕ) → Rel (nodeValue (modelOf S A labels es) k a L R s) (nodeValue (modelOf S A labels′ es) k a M Q s)
+  module _ (m : Model) (labels′ : List ℕ) (lab : (i : ℕ) → Rel (at (m .labels) i) (at labels′ i)) where
+    pub node-related : (k : Kind) (a : ℕ) (L M R Q : List ℕ) → RowRelated Rel (K .kept) L M → RowRelated Rel (K .kept) R Q → (s : ℕ) → Rel (nodeValue m k a L R s) (nodeValue (withLabels m labels′) k a M Q s)
     unfolding nodeValue
     node-related TRUE a L M R Q l r s = K .true-true
-    node-related ATOM a L M R Q l r s = lab (s * A + a)
+    node-related ATOM a L M R Q l r s = lab (s * m .atoms + a)
     node-related NOT a L M R Q l r s = K .turned (at L s) (at M s) (l s)
     node-related AND a L M R Q l r s = K .kept .least (at L s) (at M s) (at R s) (at Q s) (l s) (r s)
-    node-related EX a L M R Q l r s = next-related Rel (K .kept) false es L M l s
-    node-related EU a L M R Q l r s = until-related Rel (K .kept) false es L M R Q l r S s
-    node-related AU a L M R Q l r s = until-related Rel (K .kept) true es L M R Q l r S s
+    node-related EX a L M R Q l r s = next-related Rel (K .kept) false (m .transitions) L M l s
+    node-related EU a L M R Q l r s = until-related Rel (K .kept) false (m .transitions) L M R Q l r (m .states) s
+    node-related AU a L M R Q l r s = until-related Rel (K .kept) true (m .transitions) L M R Q l r (m .states) s
 
-    rows-from : (xs ys : List (List ℕ)) → RowsRelated xs ys → (ns : List ℕ) → RowsRelated (rowsFrom (modelOf S A labels es) xs ns) (rowsFrom (modelOf S A labels′ es) ys ns)
+    rows-from : (xs ys : List (List ℕ)) → RowsRelated xs ys → (ns : List ℕ) → RowsRelated (rowsFrom m xs ns) (rowsFrom (withLabels m labels′) ys ns)
     unfolding rowsFrom nodeRow
     rows-from xs ys h [] = h
     rows-from xs ys h (k ∷ []) = h
     rows-from xs ys h (k ∷ a ∷ []) = h
     rows-from xs ys h (k ∷ a ∷ b ∷ ns) =
         rows-from _ _
-        (rows-more xs ys h _ _ (tab-related _ _ S (node-related (kindOf k) a (getD xs a []) (getD ys a []) (getD xs b []) (getD ys b []) (h .here a) (h .here b))))
+        (rows-more xs ys h _ _ (tab-related _ _ (m .states) (node-related (kindOf k) a (getD xs a []) (getD ys a []) (getD xs b []) (getD ys b []) (h .here a) (h .here b))))
         ns
 
-    pub rows-related : (ns : List ℕ) → RowsRelated (rowsOf (modelOf S A labels es) ns) (rowsOf (modelOf S A labels′ es) ns)
-    unfolding rowsOf
+    pub rows-related : (ns : List ℕ) → RowsRelated (rowsFrom m [] ns) (rowsFrom (withLabels m labels′) [] ns)
     rows-related ns = rows-from [] [] (record { count = refl; here = λ k s. K .kept .none }) ns
 
 -- values stay within 0 to 2

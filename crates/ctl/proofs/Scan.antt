@@ -5,9 +5,10 @@ use mathlib.Core.List.{List, map}
 use mathlib.Core.Bool.{Bool}
 use native.Mathlib.Omega.{arith}
 use native.Mathlib.Numerals.{add-one}
-use Rattle.kripke.specs.Transitions.{Begun, ends, to}
+use Rattle.kripke.specs.Inside.{Begun}
+use Rattle.kripke.specs.Transitions.{ends, to}
 use Rattle.kripke.specs.Until.{next}
-use Rattle.kripke.specs.Values.{choose}
+use Rattle.values.specs.Values.{choose}
 use Rattle.lists.specs.Choosing.{best}
 use Rattle.lists.specs.Entries.{at}
 use Rattle.kripke.proofs.Steps.{choose-assoc}

@@ -1,21 +1,21 @@
 -- A verdict space that holds rows of S values side by side: where each lies, and one row more.
+use Rattle.lists.specs.Rows.{fill, laid, tab}
 use mathlib.Core.Path.{_≡_, refl, sym, ap, ap₂, _∙_, subst}
 use Prim.Native.Nat.{ℕ, zero, suc, _+_, _≤_, _<_}
 use mathlib.Core.List.{List, [], _∷_, _++_, append-assoc, append-nil}
 use mathlib.Core.Bool.{false}
 use mathlib.Core.Logic.{⊎-elim}
 use native.Mathlib.Omega.{arith}
-use lib.ListN.{length, getD, take, drop, length-append, length-drop, List·getD-eq-default}
+use lib.ListN.{length, getD, drop, length-append, length-drop, List·getD-eq-default}
 use lib.Seq.{take-at, drop-drop, drop-append-add}
 use borrow.Author.Tests.{lt-ltb, le-ltb}
-use Rattle.ctl.specs.Inside.{RowsFit, operandRow, rowBytes, withRowAt}
-use Rattle.ctl.specs.Rows.{spaceWith, storedRows}
-use Rattle.kripke.specs.Limits.{mostStates}
-use Rattle.kripke.specs.Rows.{badRow, rowBegin, rowSize, rowValues, storedRow, valueAt}
-use Rattle.kripke.specs.Values.{top}
+use Rattle.ctl.specs.Inside.{RowsFit, operandRow}
+use Rattle.ctl.specs.Rows.{storedRows}
+use Rattle.values.specs.Limits.{mostStates}
+use Rattle.values.specs.Rows.{badRow, held, rowBegin, rowIn, rowSize, rowValues, storedRow, valueAt}
+use Rattle.values.specs.Values.{top}
 use Rattle.lists.specs.Entries.{All, at}
-use Rattle.lists.specs.Rows.{tab}
-use Rattle.kripke.proofs.StoredRows.{stored-size, stored-valid, stored-values}
+use Rattle.values.proofs.StoredRows.{stored-size, stored-valid, stored-values}
 use Rattle.lists.proofs.Entries.{all-get}
 use Rattle.lists.proofs.Numbers.{lt-or-le}
 use Rattle.lists.proofs.Rows.{tab-at}
@@ -41,8 +41,8 @@ unfolding storedRows
 stored-length S [] f = sym (begin-zero S)
 stored-length S (row ∷ rows) f = length-append (storedRow row) (storedRows rows) ∙ omega (arith, fine-stored S row (f .0), stored-length S rows (f .1), begin-next S (length rows))
 
-pub space-none : (before : List ℕ) → spaceWith [] before ≡ before
-unfolding spaceWith storedRows
+pub space-none : (before : List ℕ) → fill (storedRows []) before ≡ before
+unfolding storedRows
 space-none before = refl
 
 stored-more : (rows : List (List ℕ)) (row : List ℕ) → storedRows (rows ++ (row ∷ [])) ≡ storedRows rows ++ storedRow row
@@ -51,8 +51,8 @@ stored-more [] row = append-nil (storedRow row)
 stored-more (x ∷ rows) row = ap (λ (r : List ℕ). storedRow x ++ r) (stored-more rows row) ∙ sym (append-assoc (storedRow x) (storedRows rows) (storedRow row))
 
 -- row k stands where it begins
-bytes-at : (S : ℕ) (rows : List (List ℕ)) → All (RowFine S) rows → (rest : List ℕ) (k : ℕ) → k < length rows → rowBytes S k (storedRows rows ++ rest) ≡ storedRow (getD rows k [])
-unfolding storedRows rowBytes
+bytes-at : (S : ℕ) (rows : List (List ℕ)) → All (RowFine S) rows → (rest : List ℕ) (k : ℕ) → k < length rows → rowIn S (storedRows rows ++ rest) k ≡ storedRow (getD rows k [])
+unfolding storedRows rowIn
 bytes-at S [] f rest k h = absurd (omega arith)
 bytes-at S (row ∷ rows) f rest zero h =
     rw (begin-zero S, append-assoc (storedRow row) (storedRows rows) rest) (take-at (storedRow row) (storedRows rows ++ rest) (rowSize S) (fine-stored S row (f .0)))
@@ -61,19 +61,17 @@ bytes-at S (row ∷ rows) f rest (suc k) h =
     (bytes-at S rows (f .1) rest k (omega arith))
 
 module _ (S : ℕ) (rows : List (List ℕ)) (fine : All (RowFine S) rows) (before : List ℕ) (room : rowBegin S (length rows) ≤ length before) where
-  pub space-length : length (spaceWith rows before) ≡ length before
-  unfolding spaceWith
+  pub space-length : length (fill (storedRows rows) before) ≡ length before
   space-length = length-append (storedRows rows) (drop (length (storedRows rows)) before) ∙ omega (arith, length-drop (length (storedRows rows)) before, stored-length S rows fine)
 
-  row-in-space : (k : ℕ) → k < length rows → rowBytes S k (spaceWith rows before) ≡ storedRow (getD rows k [])
-  unfolding spaceWith
+  row-in-space : (k : ℕ) → k < length rows → rowIn S (fill (storedRows rows) before) k ≡ storedRow (getD rows k [])
   row-in-space k h = bytes-at S rows fine (drop (length (storedRows rows)) before) k h
 
   fine-at : (k : ℕ) → k < length rows → RowFine S (getD rows k [])
   fine-at k h = all-get (RowFine S) [] rows fine k h
 
   -- every row stands, and an operand's row is read back as it is
-  pub rows-fit : S ≤ mostStates → RowsFit S (length rows) (spaceWith rows before)
+  pub rows-fit : S ≤ mostStates → RowsFit S (length rows) (fill (storedRows rows) before)
   rows-fit few =
       record {
         few = few;
@@ -81,7 +79,7 @@ module _ (S : ℕ) (rows : List (List ℕ)) (fine : All (RowFine S) rows) (befor
         stand = λ k h. rw (row-in-space k h) (subst (λ (n : ℕ). badRow n (storedRow (getD rows k [])) ≡ false) (fine-at k h .size) (stored-valid (getD rows k []) (fine-at k h .small)));
       }
 
-  pub operand-in-space : (k : ℕ) → operandRow S (spaceWith rows before) (length rows) k ≡ getD rows k []
+  pub operand-in-space : (k : ℕ) → operandRow S (fill (storedRows rows) before) (length rows) k ≡ getD rows k []
   unfolding operandRow
   operand-in-space k =
       ⊎-elim
@@ -89,22 +87,19 @@ module _ (S : ℕ) (rows : List (List ℕ)) (fine : All (RowFine S) rows) (befor
       (λ (h : length rows ≤ k). rw (le-ltb k (length rows) h) (sym (List·getD-eq-default rows [] h)))
       (lt-or-le k (length rows))
 
-  pub value-in-space : (k s : ℕ) → k < length rows → s < S → valueAt (take (rowSize S) (drop (rowBegin S k) (spaceWith rows before))) s ≡ at (getD rows k []) s
-  unfolding rowBytes rowValues
+  pub value-in-space : (k s : ℕ) → k < length rows → s < S → held S (fill (storedRows rows) before) k s ≡ at (getD rows k []) s
+  unfolding held rowValues
   value-in-space k s h l =
       let row : List ℕ = getD rows k [] in
       let back : tab (valueAt (storedRow row)) S ≡ row = subst (λ (n : ℕ). tab (valueAt (storedRow row)) n ≡ row) (fine-at k h .size) (stored-values row) in
       ap (λ (bytes : List ℕ). valueAt bytes s) (row-in-space k h) ∙ sym (tab-at (valueAt (storedRow row)) S s l) ∙ ap (λ (v : List ℕ). at v s) back
 
   -- one row more
-  pub space-more : (row : List ℕ) → RowFine S row → withRowAt S (length rows) row (spaceWith rows before) ≡ spaceWith (rows ++ (row ∷ [])) before
-  unfolding withRowAt spaceWith
+  pub space-more : (row : List ℕ) → RowFine S row → laid (rowBegin S (length rows)) (storedRow row) (fill (storedRows rows) before) ≡ fill (storedRows (rows ++ (row ∷ []))) before
   space-more row f =
       let n : ℕ = length (storedRows rows) in
+      let size : ℕ = length (storedRow row) in
       let place : rowBegin S (length rows) ≡ n = sym (stored-length S rows fine) in
-      let size : length (storedRow row) ≡ rowSize S = fine-stored S row f in
-      let whole : length (storedRows rows ++ storedRow row) ≡ n + rowSize S = length-append (storedRows rows) (storedRow row) ∙ omega arith in
+      let whole : length (storedRows rows ++ storedRow row) ≡ n + size = length-append (storedRows rows) (storedRow row) in
       rw (place, stored-more rows row)
-      (ap₂ _++_ (take-at (storedRows rows) (drop n before) n refl) (ap (λ (r : List ℕ). storedRow row ++ r) (drop-append-add (storedRows rows) (drop n before) (rowSize S) ∙ drop-drop (rowSize S) n before))
-      ∙ sym (append-assoc (storedRows rows) (storedRow row) (drop (n + rowSize S) before))
-      ∙ ap (λ (k : ℕ). (storedRows rows ++ storedRow row) ++ drop k before) (sym whole))
+      (ap₂ (λ (front rest : List ℕ). (front ++ storedRow row) ++ rest) (take-at (storedRows rows) (drop n before) n refl) (drop-append-add (storedRows rows) (drop n before) size ∙ drop-drop size n before ∙ ap (λ (k : ℕ). drop k before) (sym whole)))

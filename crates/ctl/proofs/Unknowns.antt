@@ -8,7 +8,7 @@ use native.Mathlib.Omega.{arith}
 use lib.Dec.{eqb}
 use borrow.Author.Tests.{ne-eqb, eqb-true, eqb-false}
 use Rattle.ctl.specs.Rows.{initialWith, overInitial}
-use Rattle.kripke.specs.Values.{neg, top}
+use Rattle.values.specs.Values.{neg, top}
 use Rattle.lists.specs.Entries.{anyBelow, at}
 use Rattle.ctl.proofs.OverInitial.{initial-false, initial-true, initial-unknown}
 use Rattle.ctl.proofs.Related.{Kleene}

@@ -5,15 +5,13 @@ use mathlib.Core.List.{List}
 use mathlib.Core.Bool.{cond}
 use lib.ListN.{length}
 use lib.Dec.{eqb}
-use Rattle.kripke.specs.Answers.{verdict}
+use Rattle.lists.specs.Rows.{fill}
+use Rattle.values.specs.Answers.{verdict}
+use Rattle.model.specs.Model.{Model}
+use Rattle.model.specs.Refusals.{judgeRefusal}
 use Rattle.ctl.specs.declared.Judged.{Judged}
 use Rattle.ctl.specs.declared.Judged.the-variants.{Verdicts, Refused}
-use Rattle.ctl.specs.Nodes.{Model}
-use Rattle.ctl.specs.Rows.{rowsOf, spaceWith, modelVerdict}
-use Rattle.ctl.specs.Refusals.{judgeRefusal}
-
-abbrev pub modelOf : ℕ → ℕ → List ℕ → List ℕ → Model
-modelOf S A labels es = record { states = S; atoms = A; labels = labels; transitions = es }
+use Rattle.ctl.specs.Rows.{rowsOf, storedRows, modelVerdict}
 
 -- the answer's case for the paper's number: 0 with the model's verdict, or the refusal
 unfoldable pub judgedAs : ℕ → ℕ → Judged
@@ -24,7 +22,11 @@ unfoldable pub numberOf : Judged → ℕ
 numberOf (Verdicts v) = 0
 numberOf (Refused n) = n
 
+-- the number that is due, by the verdict space that is lent
+abbrev pub numberDue : Model → List ℕ → ℕ
+numberDue m before = judgeRefusal m (length before)
+
 -- `judge`: the refusal or the model's verdict, and the rows in the space where nothing is refused
-pub record Judging (S A : ℕ) (labels initial es ns before after : List ℕ) (r : Judged) : Type 0 where
-  pub answer : r ≡ judgedAs (judgeRefusal S A labels initial es ns (length before)) (modelVerdict (modelOf S A labels es) initial ns)
-  pub space : after ≡ cond (eqb (judgeRefusal S A labels initial es ns (length before)) 0) (spaceWith (rowsOf (modelOf S A labels es) ns) before) before
+pub record Judging (m : Model) (before after : List ℕ) (r : Judged) : Type 0 where
+  pub answer : r ≡ judgedAs (numberDue m before) (modelVerdict m)
+  pub space : after ≡ cond (eqb (numberDue m before) 0) (fill (storedRows (rowsOf m)) before) before

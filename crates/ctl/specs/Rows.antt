@@ -1,16 +1,14 @@
--- The rows of a node list, the verdict space that holds them, and the model's verdict.
-use Prim.Native.Nat.{ℕ, _/_, _-_}
-use mathlib.Core.List.{List, [], _∷_, _++_, map}
+-- The rows of a model's nodes, as they stand in the verdict space, and the model's verdict.
+use Prim.Native.Nat.{ℕ, _-_}
+use mathlib.Core.List.{List, [], _∷_, _++_}
 use mathlib.Core.Bool.{Bool, cond, _&&_}
-use lib.ListN.{length, getD, drop}
+use lib.ListN.{getD}
 use lib.Dec.{eqb}
 use Rattle.lists.specs.Entries.{at, anyBelow}
-use Rattle.kripke.specs.Rows.{storedRow}
-use Rattle.ctl.specs.Nodes.{Model, kindOf, nodeRow}
-
--- how many nodes there are: three numbers each
-abbrev pub nodeCount : List ℕ → ℕ
-nodeCount ns = length ns / 3
+use Rattle.values.specs.Rows.{storedRow}
+use Rattle.model.specs.Model.{Model, nodeCount}
+use Rattle.model.specs.Kinds.{kindOf}
+use Rattle.ctl.specs.Nodes.{nodeRow}
 
 -- the rows so far, and those of the nodes to come, each from its operands' rows
 unfoldable pub rowsFrom : Model → List (List ℕ) → List ℕ → List (List ℕ)
@@ -20,21 +18,17 @@ rowsFrom m rows (k ∷ a ∷ []) = rows
 rowsFrom m rows (k ∷ a ∷ b ∷ ns) = rowsFrom m (rows ++ (nodeRow m (kindOf k) a (getD rows a []) (getD rows b []) ∷ [])) ns
 
 -- the row of every node
-unfoldable pub rowsOf : Model → List ℕ → List (List ℕ)
-rowsOf m ns = rowsFrom m [] ns
+unfoldable pub rowsOf : Model → List (List ℕ)
+rowsOf m = rowsFrom m [] (m .nodes)
 
 -- the verdict of node k at a state
-unfoldable pub verdictAt : Model → List ℕ → ℕ → ℕ → ℕ
-verdictAt m ns k s = at (getD (rowsOf m ns) k []) s
+unfoldable pub verdictAt : Model → ℕ → ℕ → ℕ
+verdictAt m k s = at (getD (rowsOf m) k []) s
 
 -- rows as they are stored, one after the other
 unfoldable pub storedRows : List (List ℕ) → List ℕ
 storedRows [] = []
 storedRows (row ∷ rows) = storedRow row ++ storedRows rows
-
--- the space afterwards: the rows at its front, and beyond the last one what was there
-unfoldable pub spaceWith : List (List ℕ) → List ℕ → List ℕ
-spaceWith rows before = storedRows rows ++ drop (length (storedRows rows)) before
 
 -- state s is initial and has this value in a row
 abbrev pub initialWith : List ℕ → List ℕ → ℕ → ℕ → Bool
@@ -45,5 +39,5 @@ unfoldable pub overInitial : ℕ → List ℕ → List ℕ → ℕ
 overInitial S initial row = cond (anyBelow (initialWith initial row 1) S) 1 (cond (anyBelow (initialWith initial row 0) S) 0 2)
 
 -- the model's verdict is that of the last node over the initial states
-unfoldable pub modelVerdict : Model → List ℕ → List ℕ → ℕ
-modelVerdict m initial ns = overInitial (m .states) initial (getD (rowsOf m ns) (nodeCount ns - 1) [])
+unfoldable pub modelVerdict : Model → ℕ
+modelVerdict m = overInitial (m .states) (m .initial) (getD (rowsOf m) (nodeCount (m .nodes) - 1) [])

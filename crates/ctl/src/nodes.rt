@@ -1,17 +1,18 @@
 // The row of one node from its operands' rows.
-use kripke::values::Verdict;
+use values::verdict::Verdict;
 ghost use mathlib.Core.Path.{_≡_};
-ghost use mathlib.Core.List.{List, _++_};
 ghost use mathlib.Core.Bool.{false};
 ghost use Prim.Native.Nat.{ℕ, _+_, _*_, _<_, _≤_};
-ghost use lib.ListN.{length, drop};
+ghost use lib.ListN.{length};
 ghost use Rattle.lists.specs.Entries.{at};
 ghost use Rattle.lists.specs.Rows.{Filled};
 ghost use Rattle.kripke.specs.Until.{next};
-ghost use Rattle.kripke.specs.Answers.{verdict};
-ghost use Rattle.ctl.specs.Nodes.{kindOf, nodeValue};
-ghost use Rattle.ctl.specs.Answers.{modelOf};
-ghost use Rattle.ctl.specs.Inside.{Tables, Judgeable, AtomFits, plainValue};
+ghost use Rattle.values.specs.Answers.{verdict};
+ghost use Rattle.model.specs.Kinds.{kindOf};
+ghost use Rattle.ctl.specs.Nodes.{nodeValue};
+ghost use Rattle.kripke.specs.Inside.{Ready};
+ghost use Rattle.ctl.specs.Inside.{structureOf, Judgeable, plainValue};
+ghost use Rattle.model.specs.Inside.{AtomFits};
 
 // Constant true, not, and: by the operands' values at the same state.
 fn plain(kind: u16, left: Verdict, right: Verdict) -> Verdict
@@ -52,13 +53,13 @@ fn atom_row(states: usize, atoms: usize, labels: &[u8], atom: usize, row: &mut [
 
 // EX: the greatest value among the successors.
 fn next_row(states: usize, transitions: &[u16], begins: &[u16], left: &[u8], row: &mut [u8])
-    requires { ⌜ Tables states (now transitions) (now begins) × (states ≤ length (now left)) × (states ≤ length (now row)) ⌝ }
+    requires { ⌜ Ready states (now transitions) (now begins) × (states ≤ length (now left)) × (states ≤ length (now row)) ⌝ }
     ensures { λ _. ⌜ Filled (next false (now (transitions .entry)) (now (left .entry))) states (now (row .entry)) (now (row .exit)) ⌝ }
 {
     let mut s: usize = 0;
     while s < states {
-        let value = crate::until::next_at(states, transitions, begins, left, false, s);
-        row[s] = value.number();
+        let greatest = crate::until::next_at(states, transitions, begins, left, false, s);
+        row[s] = greatest.number();
         s += 1;
     }
 }
@@ -75,8 +76,8 @@ pub(crate) fn node_row(
     right: &[u8],
     row: &mut [u8],
 )
-    requires { ⌜ Judgeable (modelOf states atoms (now labels) (now transitions)) (now begins) × AtomFits atoms kind number × (states ≤ length (now left)) × (states ≤ length (now right)) × (states ≤ length (now row)) ⌝ }
-    ensures { λ _. ⌜ Filled (nodeValue (modelOf states atoms (now (labels .entry)) (now (transitions .entry))) (kindOf kind) number (now (left .entry)) (now (right .entry))) states (now (row .entry)) (now (row .exit)) ⌝ }
+    requires { ⌜ Judgeable (structureOf states atoms (now labels) (now transitions)) (now begins) × AtomFits atoms kind number × (states ≤ length (now left)) × (states ≤ length (now right)) × (states ≤ length (now row)) ⌝ }
+    ensures { λ _. ⌜ Filled (nodeValue (structureOf states atoms (now (labels .entry)) (now (transitions .entry))) (kindOf kind) number (now (left .entry)) (now (right .entry))) states (now (row .entry)) (now (row .exit)) ⌝ }
 {
     if kind == 1 {
         atom_row(states, atoms, labels, number, row);

@@ -1,15 +1,15 @@
 // Where the rows lie in the verdict space: an operand's row is read and a node's row is written here alone.
-use kripke::limits::MOST_STATES;
-use kripke::rows::Row;
-use kripke::values::Verdict;
+use values::limits::MOST_STATES;
+use values::rows::Row;
+use values::verdict::Made;
+use values::verdict::Verdict;
 ghost use mathlib.Core.Path.{_≡_};
-ghost use Prim.Native.Nat.{_+_, _-_, _<_, _≤_};
+ghost use Prim.Native.Nat.{_+_, _<_, _≤_};
 ghost use lib.ListN.{length, take};
-ghost use Rattle.lists.specs.Entries.{anyBelow};
-ghost use Rattle.kripke.specs.Rows.{rowSize, rowBegin};
-ghost use Rattle.kripke.specs.Answers.{verdict};
-ghost use Rattle.ctl.specs.Rows.{nodeCount, rowsOf, spaceWith, initialWith, overInitial};
-ghost use Rattle.ctl.specs.Answers.{modelOf};
+ghost use Rattle.values.specs.Rows.{rowSize, rowBegin};
+ghost use Rattle.values.specs.Answers.{verdict};
+ghost use Rattle.model.specs.Model.{nodeCount};
+ghost use Rattle.ctl.specs.Rows.{overInitial};
 ghost use Rattle.ctl.specs.Inside as inside;
 
 // The row of operand k of node i, by value: its values, the rest 0. What is no earlier node has zeros alone.
@@ -23,19 +23,19 @@ fn operand(states: usize, verdicts: &[u8], i: usize, k: usize) -> Row
             values: [0u8; MOST_STATES],
         };
     }
-    let size = kripke::rows::row_size(states);
+    let size = values::rows::row_size(states);
     let begin = k * size;
     let end = begin + size;
-    kripke::rows::read_row(states, &verdicts[begin..end])
+    values::rows::read_row(states, &verdicts[begin..end])
 }
 
 // A finished row becomes row i of the verdict space.
 fn put_row(states: usize, row: &[u8], i: usize, verdicts: &mut [u8])
     requires { ⌜ (states ≤ length (now row)) × (rowBegin states i + rowSize states ≤ length (now verdicts)) ⌝ }
-    ensures { λ _. ⌜ now (verdicts .exit) ≡ inside.withRowAt states i (take states (now (row .entry))) (now (verdicts .entry)) ⌝ }
+    ensures { λ _. ⌜ inside.RowPut states i (take states (now (row .entry))) (now (verdicts .entry)) (now (verdicts .exit)) ⌝ }
 {
-    let at = i * kripke::rows::row_size(states);
-    kripke::rows::store_row(&row[..states], &mut verdicts[at..]);
+    let at = i * values::rows::row_size(states);
+    values::rows::store_row(&row[..states], &mut verdicts[at..]);
 }
 
 // The row of node i, from the rows before it.
@@ -49,8 +49,8 @@ fn put_node(
     i: usize,
     verdicts: &mut [u8],
 )
-    requires { ⌜ inside.NodeReady (modelOf states atoms (now labels) (now transitions)) (now begins) (now nodes) i (now verdicts) ⌝ }
-    ensures { λ _. ⌜ now (verdicts .exit) ≡ inside.withRowAt states i (inside.nodeRowAt (modelOf states atoms (now (labels .entry)) (now (transitions .entry))) (now (nodes .entry)) (now (verdicts .entry)) i) (now (verdicts .entry)) ⌝ }
+    requires { ⌜ inside.NodeReady (inside.structureOf states atoms (now labels) (now transitions)) (now begins) (now nodes) i (now verdicts) ⌝ }
+    ensures { λ _. ⌜ inside.NodePut (inside.structureOf states atoms (now (labels .entry)) (now (transitions .entry))) (now (nodes .entry)) i (now (verdicts .entry)) (now (verdicts .exit)) ⌝ }
 {
     let kind = nodes[3 * i];
     let number = nodes[3 * i + 1] as usize;
@@ -83,8 +83,8 @@ pub(crate) fn put_rows(
     nodes: &[u16],
     verdicts: &mut [u8],
 )
-    requires { ⌜ inside.Judgeable (modelOf states atoms (now labels) (now transitions)) (now begins) × inside.NodesFit atoms (now nodes) × (rowBegin states (nodeCount (now nodes)) ≤ length (now verdicts)) ⌝ }
-    ensures { λ _. ⌜ now (verdicts .exit) ≡ spaceWith (rowsOf (modelOf states atoms (now (labels .entry)) (now (transitions .entry))) (now (nodes .entry))) (now (verdicts .entry)) ⌝ }
+    requires { ⌜ inside.RowsReady (inside.structureOf states atoms (now labels) (now transitions)) (now begins) (now nodes) (now verdicts) ⌝ }
+    ensures { λ _. ⌜ inside.RowsPut (inside.structureOf states atoms (now (labels .entry)) (now (transitions .entry))) (now (nodes .entry)) (now (verdicts .entry)) (now (verdicts .exit)) ⌝ }
 {
     let n = nodes.len() / 3;
     let mut i: usize = 0;
@@ -103,44 +103,38 @@ pub(crate) fn put_rows(
     }
 }
 
-// Whether a state is initial and has this value in a row.
-fn initial_with(initial: &[u8], row: &[u8], value: u8, s: usize) -> bool
-    requires { ⌜ (s < length (now initial)) × (s < length (now row)) ⌝ }
-    ensures { λ r. ⌜ r ≡ initialWith (now (initial .entry)) (now (row .entry)) value s ⌝ }
+// Unknown if either is, otherwise false if either is, otherwise true; what is no verdict changes nothing.
+fn joined(found: Verdict, byte: u8) -> Verdict
+    ensures { λ r. ⌜ r ≡ verdict (inside.joined (found .0) byte) ⌝ }
 {
-    if initial[s] == 1 {
-        return row[s] == value;
-    }
-    false
-}
-
-// Whether an initial state has this value in a row.
-fn some_initial(states: usize, initial: &[u8], row: &[u8], value: u8) -> bool
-    requires { ⌜ (states ≤ length (now initial)) × (states ≤ length (now row)) ⌝ }
-    ensures { λ r. ⌜ r ≡ anyBelow (initialWith (now (initial .entry)) (now (row .entry)) value) states ⌝ }
-{
-    let mut s: usize = 0;
-    while s < states {
-        if initial_with(initial, row, value, s) {
-            return true;
+    match Verdict::of(byte) {
+        Made::One(value) => {
+            if found.0 == Verdict::UNKNOWN.0 {
+                return found;
+            }
+            if value.0 == Verdict::UNKNOWN.0 {
+                return value;
+            }
+            found.and(value)
         }
-        s += 1;
+        Made::None => found,
     }
-    false
 }
 
-// Unknown if an initial state has it, otherwise false if one has that, otherwise true.
+// The verdict of a row over the initial states.
 fn over_initial(states: usize, initial: &[u8], row: &[u8]) -> Verdict
     requires { ⌜ (states ≤ length (now initial)) × (states ≤ length (now row)) ⌝ }
     ensures { λ r. ⌜ r ≡ verdict (overInitial states (now (initial .entry)) (now (row .entry))) ⌝ }
 {
-    if some_initial(states, initial, row, Verdict::UNKNOWN.0) {
-        return Verdict::UNKNOWN;
+    let mut found = Verdict::TRUE;
+    let mut s: usize = 0;
+    while s < states {
+        if initial[s] == 1 {
+            found = joined(found, row[s]);
+        }
+        s += 1;
     }
-    if some_initial(states, initial, row, Verdict::FALSE.0) {
-        return Verdict::FALSE;
-    }
-    Verdict::TRUE
+    found
 }
 
 // The verdict of the last row over the initial states.
@@ -151,7 +145,7 @@ pub(crate) fn model_verdict(
     verdicts: &[u8],
 ) -> Verdict
     requires { ⌜ inside.RowsFit states (nodeCount (now nodes)) (now verdicts) × (0 < nodeCount (now nodes)) × (states ≤ length (now initial)) ⌝ }
-    ensures { λ r. ⌜ r ≡ verdict (overInitial states (now (initial .entry)) (inside.operandRow states (now (verdicts .entry)) (nodeCount (now (nodes .entry))) (nodeCount (now (nodes .entry)) - 1))) ⌝ }
+    ensures { λ r. ⌜ r ≡ verdict (overInitial states (now (initial .entry)) (inside.lastRow states (nodeCount (now (nodes .entry))) (now (verdicts .entry)))) ⌝ }
 {
     let n = nodes.len() / 3;
     let last = operand(states, verdicts, n, n - 1);

@@ -1,19 +1,20 @@
 // E and A by rounds of one step back, each one pass over the transitions.
-use kripke::limits::MOST_STATES;
-use kripke::values::Verdict;
+use values::limits::MOST_STATES;
+use values::verdict::Verdict;
 ghost use mathlib.Core.Path.{_≡_};
-ghost use mathlib.Core.List.{List, _++_, map};
+ghost use mathlib.Core.List.{map};
 ghost use mathlib.Core.Bool.{false};
 ghost use Prim.Native.Nat.{ℕ, _-_, _<_, _≤_};
-ghost use lib.ListN.{length, drop};
+ghost use lib.ListN.{length};
 ghost use Rattle.lists.specs.Entries.{at, All};
 ghost use Rattle.lists.specs.Rows.{Filled};
 ghost use Rattle.lists.specs.Choosing.{best};
-ghost use Rattle.kripke.specs.Values.{choose};
+ghost use Rattle.values.specs.Values.{choose};
 ghost use Rattle.kripke.specs.Transitions.{count, ends};
 ghost use Rattle.kripke.specs.Until.{next, until};
-ghost use Rattle.kripke.specs.Answers.{verdict};
-ghost use Rattle.ctl.specs.Inside.{Tables, Rounds, stepped};
+ghost use Rattle.values.specs.Answers.{verdict};
+ghost use Rattle.kripke.specs.Inside.{Ready};
+ghost use Rattle.ctl.specs.Inside.{Rounds, stepped};
 
 // The greater of two verdicts, or, for "all", the smaller.
 fn chosen(all: bool, a: Verdict, b: Verdict) -> Verdict
@@ -50,7 +51,7 @@ pub(crate) fn next_at(
     all: bool,
     s: usize,
 ) -> Verdict
-    requires { ⌜ Tables states (now transitions) (now begins) × (states ≤ length (now row)) × (s < states) ⌝ }
+    requires { ⌜ Ready states (now transitions) (now begins) × (states ≤ length (now row)) × (s < states) ⌝ }
     ensures { λ r. ⌜ r ≡ verdict (next all (now (transitions .entry)) (now (row .entry)) s) ⌝ }
 {
     let begin = begins[s] as usize;

@@ -10,7 +10,7 @@ use native.Mathlib.Numerals.{add-one}
 use Rattle.kripke.specs.Endless.{Endless, Settles}
 use Rattle.kripke.specs.Transitions.{Edge, Graph, succs}
 use Rattle.kripke.specs.Until.{step, until}
-use Rattle.kripke.specs.Values.{choose}
+use Rattle.values.specs.Values.{choose}
 use Rattle.lists.specs.Choosing.{best}
 use Rattle.lists.specs.Entries.{at}
 use Rattle.kripke.proofs.Rest.{enough, never-above, settled}

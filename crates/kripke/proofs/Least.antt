@@ -8,7 +8,7 @@ use native.Mathlib.Nat.{le-trans}
 use native.Mathlib.Numerals.{add-one}
 use Rattle.kripke.specs.Transitions.{Graph, succs}
 use Rattle.kripke.specs.Until.{next, step, until}
-use Rattle.kripke.specs.Values.{choose}
+use Rattle.values.specs.Values.{choose}
 use Rattle.lists.specs.Choosing.{best}
 use Rattle.lists.specs.Entries.{at}
 use Rattle.lists.specs.Rows.{tab}

@@ -1,8 +1,8 @@
 pub mod Begins
-pub mod StoredRows
 pub mod Refusals
 pub mod Read
 pub mod Successors
+pub mod Nexts
 pub mod Walks
 pub mod Steps
 pub mod Related
@@ -10,5 +10,3 @@ pub mod Rounds
 pub mod Rest
 pub mod Least
 pub mod EndlessPaths
-pub mod OneAnswer
-pub mod Decimals

@@ -8,14 +8,15 @@ use lib.ListN.{replicate, length-replicate}
 use lib.Dec.{eqb}
 use borrow.Author.Tests.{ne-eqb}
 use Rattle.kripke.specs.Answers.{beginnings, transitionsRead}
-use Rattle.kripke.specs.Limits.{mostStates}
-use Rattle.kripke.specs.Refusals.{earlyCauses, stuckCause, tableRefusal}
-use Rattle.kripke.specs.Transitions.{Ascending, Begun, firstOut, succs}
+use Rattle.values.specs.Limits.{mostStates}
+use Rattle.kripke.specs.Refusals.{tableRefusal}
+use Rattle.kripke.specs.Inside.{earlyCauses, stuckCause, Accepted, Ready}
+use Rattle.kripke.specs.Transitions.{Ascending, firstOut, succs}
 use Rattle.lists.specs.Causes.{refusalOf}
 use Rattle.lists.specs.Entries.{anyBelow, at, isNil}
 use Rattle.lists.specs.Rows.{Filled, tab}
 use Rattle.kripke.proofs.Begins.{first-less, first-within, stuck-at, succs-ends}
-use Rattle.kripke.proofs.Refusals.{Accepted, accepted, listed, table-parts}
+use Rattle.kripke.proofs.Refusals.{accepted, listed, table-parts}
 use Rattle.lists.proofs.Causes.{none-refused, refused, skipped}
 use Rattle.lists.proofs.Rows.{drop-replicate, filled-at, filled-length}
 use Rattle.lists.proofs.Search.{any-same}
@@ -60,7 +61,7 @@ module _ (S : ℕ) (es : List ℕ) (fine : refusalOf (earlyCauses S es) ≡ 0) (
       (b ∙ filled ∙ ap (λ (l : List ℕ). tab (firstOut es) (S + 1) ++ l) (drop-replicate (S + 1) (mostStates + 1) 0 ∙ ap (λ (k : ℕ). replicate k 0) rest) ∙ rw n)
 
 -- what a caller has of an answer without a refusal: a graph, and where each state's transitions begin
-pub begun : (S : ℕ) (es : List ℕ) (r : Transitions) → r ≡ transitionsRead S es → r .refusal ≡ 0 → Accepted S es × Begun S es (r .begins)
+pub begun : (S : ℕ) (es : List ℕ) (r : Transitions) → r ≡ transitionsRead S es → r .refusal ≡ 0 → Ready S es (r .begins)
 unfolding transitionsRead beginnings
 begun S es r e z =
     let fine : tableRefusal S es ≡ 0 = ap (λ (x : Transitions). x .refusal) (sym e) ∙ z in
@@ -69,12 +70,13 @@ begun S es r e z =
     let rest : mostStates + 1 - (S + 1) ≡ mostStates - S = omega arith in
     let filled : Filled (firstOut es) (S + 1) (replicate (mostStates + 1) 0) (r .begins) = ap (λ (x : Transitions). x .begins) e ∙ ap (λ (n : ℕ). cond (eqb n 0) (beginnings S es) (replicate (mostStates + 1) 0)) fine ∙ ap (λ (l : List ℕ). tab (firstOut es) (S + 1) ++ l) (sym (drop-replicate (S + 1) (mostStates + 1) 0 ∙ ap (λ (k : ℕ). replicate k 0) rest)) in
     let here : (s : ℕ) → s ≤ S → at (r .begins) s ≡ firstOut es s = λ s h. filled-at (firstOut es) (S + 1) (replicate (mostStates + 1) 0) (r .begins) filled s (omega arith) in
-    let asc : Ascending es = a .graph .ascending in (
-      a,
-      record {
+    let asc : Ascending es = a .graph .ascending in
+    record {
+      accepted = a;
+      begun = record {
         room = omega (arith, filled-length (firstOut es) (S + 1) (replicate (mostStates + 1) 0) (r .begins) filled (rw length-replicate (omega arith)), length-replicate {A = ℕ} (mostStates + 1) 0);
         rises = λ s h. rw (here s (omega arith), here (s + 1) (omega arith)) (first-less es s asc (a .graph .out s h));
         within = λ s h. rw (here s h) (first-within es s);
         lists = λ s h. rw (here s (omega arith), here (s + 1) (omega arith)) (succs-ends es s asc);
-      },
-    )
+      };
+    }

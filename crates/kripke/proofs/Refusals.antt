@@ -9,13 +9,14 @@ use native.Mathlib.Nat.{eq-zero-or-pos}
 use lib.ListN.{length}
 use lib.Dec.{eqb, ltb}
 use borrow.Author.Tests.{lt-ltb, le-ltb, eq-eqb, ne-eqb, ltb-false, leb-false, eqb-false, not-false}
-use Rattle.kripke.specs.Limits.{mostStates, mostTransitionNumbers, mostTransitions}
-use Rattle.kripke.specs.Refusals.{badCount, badList, earlyCauses, falls, leaves, stuckCause, tableCauses, tableRefusal, transitionCauses}
-use Rattle.kripke.specs.Transitions.{Ascending, Graph, comesBefore, count, succs}
-use Rattle.lists.specs.Causes.{Given, Rising, refusalOf}
+use Rattle.values.specs.Limits.{mostStates, mostTransitionNumbers, mostTransitions}
+use Rattle.kripke.specs.Inside.{Accepted, earlyCauses, stuckCause}
+use Rattle.kripke.specs.Refusals.{badCount, badList, falls, leaves, tableCauses, tableRefusal, transitionCauses}
+use Rattle.kripke.specs.Transitions.{Ascending, comesBefore, count, succs}
+use Rattle.lists.specs.Causes.{Rising, refusalOf}
 use Rattle.lists.specs.Entries.{All, anyBelow, at, isNil}
 use Rattle.kripke.proofs.Begins.{from-tail, to-tail}
-use Rattle.lists.proofs.Causes.{given, given-one, passed, refusal-append, refused, skipped}
+use Rattle.lists.proofs.Causes.{passed, refusal-append, refused, skipped}
 use Rattle.lists.proofs.Entries.{some-of}
 use Rattle.lists.proofs.Search.{any-none}
 use Rattle.lists.proofs.Tests.{and-holds, or-left, or-neither, or-none, or-right}
@@ -65,14 +66,6 @@ list-size es e =
 pub table-rises : (S : ℕ) (es : List ℕ) → Rising 0 (tableCauses S es)
 table-rises S es = omega arith
 
--- the refusal is given exactly then
-pub table-given : (S : ℕ) (es : List ℕ) (n : ℕ) → (n ≡ tableRefusal S es → Given (tableCauses S es) n) × (Given (tableCauses S es) n → n ≡ tableRefusal S es)
-unfolding tableRefusal
-table-given S es n = (λ e. subst (Given (tableCauses S es)) (sym e) lowest, λ g. given-one (tableCauses S es) n (refusalOf (tableCauses S es)) g lowest)
-  where
-    lowest : Given (tableCauses S es) (refusalOf (tableCauses S es))
-    lowest = given 0 (tableCauses S es) (table-rises S es)
-
 -- every end is a state, told pair by pair
 ends-of : (S : ℕ) (es : List ℕ) → length es % 2 ≡ 0 → ((k : ℕ) → k < count es → leaves S es k ≡ false) → All (λ (t : ℕ). t < S) es
 ends-of S [] even h = tt
@@ -109,13 +102,6 @@ listed S es e =
     rises k f =
         let before : suc k - 1 ≡ k = omega arith in
         not-false _ (sym (and-holds _ _ (lt-ltb 0 (suc k) (omega arith))) ∙ subst (λ (j : ℕ). (ltb 0 (suc k) && not (comesBefore es j (suc k))) ≡ false) before f)
-
--- what tables have that are not refused
-pub record Accepted (S : ℕ) (es : List ℕ) : Type 0 where
-  pub some : 0 < S
-  pub few : S ≤ mostStates
-  pub short : count es ≤ mostTransitions
-  pub graph : Graph S es
 
 -- the table in its two parts: what is told from the lists, and a state without a successor
 pub table-parts : (S : ℕ) (es : List ℕ) (n : ℕ) → n ≡ refusalOf (earlyCauses S es) → tableRefusal S es ≡ cond (eqb n 0) (refusalOf (stuckCause S es ∷ [])) n

@@ -4,7 +4,7 @@ use mathlib.Core.List.{List, [], _∷_, map}
 use mathlib.Core.Bool.{Bool, true, false}
 use Rattle.kripke.specs.Transitions.{succs}
 use Rattle.kripke.specs.Until.{next, step, until, untilValue}
-use Rattle.kripke.specs.Values.{choose}
+use Rattle.values.specs.Values.{choose}
 use Rattle.kripke.specs.Walks.{walks}
 use Rattle.lists.specs.Choosing.{best}
 use Rattle.lists.specs.Entries.{at}

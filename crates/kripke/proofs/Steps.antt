@@ -7,7 +7,7 @@ use native.Mathlib.Omega.{arith}
 use lib.ListN.{length}
 use Rattle.kripke.specs.Transitions.{Graph, succs}
 use Rattle.kripke.specs.Until.{placeValue, step, until, untilValue}
-use Rattle.kripke.specs.Values.{choose}
+use Rattle.values.specs.Values.{choose}
 use Rattle.kripke.specs.Walks.{walks}
 use Rattle.lists.specs.Choosing.{best, lowest}
 use Rattle.lists.specs.Entries.{at}

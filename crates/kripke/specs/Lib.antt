@@ -1,10 +1,7 @@
-pub mod Values
-pub mod Limits
 pub mod Transitions
 pub mod Walks
 pub mod Until
 pub mod Endless
-pub mod Rows
-pub mod Signs
 pub mod Refusals
 pub mod Answers
+pub mod Inside

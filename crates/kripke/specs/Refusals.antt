@@ -6,7 +6,7 @@ use lib.ListN.{length}
 use lib.Dec.{eqb, ltb, leb}
 use Rattle.lists.specs.Entries.{isNil, anyBelow}
 use Rattle.lists.specs.Causes.{Cause, cause, refusalOf}
-use Rattle.kripke.specs.Limits.{mostStates, mostTransitionNumbers}
+use Rattle.values.specs.Limits.{mostStates, mostTransitionNumbers}
 use Rattle.kripke.specs.Transitions.{count, from, to, comesBefore, succs}
 
 -- state count 0 or above the most
@@ -25,33 +25,18 @@ leaves S es k = leb S (from es k) || leb S (to es k)
 abbrev pub falls : List ℕ → ℕ → Bool
 falls es k = ltb 0 k && not (comesBefore es (k - 1) k)
 
-abbrev pub stateCause : ℕ → Cause
-stateCause S = cause 1 (badCount S)
-
-abbrev pub listCause : List ℕ → Cause
-listCause es = cause 6 (badList es)
-
-abbrev pub endCause : ℕ → List ℕ → Cause
-endCause S es = cause 7 (anyBelow (leaves S es) (count es))
-
-abbrev pub orderCause : List ℕ → Cause
-orderCause es = cause 8 (anyBelow (falls es) (count es))
-
-abbrev pub stuckCause : ℕ → List ℕ → Cause
-stuckCause S es = cause 9 (anyBelow (λ (s : ℕ). isNil (succs es s)) S)
-
--- the causes in the order of their numbers, in the parts in which they are tried
-abbrev pub scanCauses : ℕ → List ℕ → List Cause
-scanCauses S es = endCause S es ∷ orderCause es ∷ []
-
-abbrev pub earlyCauses : ℕ → List ℕ → List Cause
-earlyCauses S es = stateCause S ∷ listCause es ∷ scanCauses S es
-
+-- the causes of the transitions, in the order of their numbers
 abbrev pub transitionCauses : ℕ → List ℕ → List Cause
-transitionCauses S es = listCause es ∷ endCause S es ∷ orderCause es ∷ stuckCause S es ∷ []
+transitionCauses S es =
+    cause 6 (badList es)
+    ∷ cause 7 (anyBelow (leaves S es) (count es))
+    ∷ cause 8 (anyBelow (falls es) (count es))
+    ∷ cause 9 (anyBelow (λ (s : ℕ). isNil (succs es s)) S)
+    ∷ []
 
+-- all of them
 abbrev pub tableCauses : ℕ → List ℕ → List Cause
-tableCauses S es = stateCause S ∷ transitionCauses S es
+tableCauses S es = cause 1 (badCount S) ∷ transitionCauses S es
 
 -- the lowest number that applies to the tables, or 0
 unfoldable pub tableRefusal : ℕ → List ℕ → ℕ

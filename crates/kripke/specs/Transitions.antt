@@ -1,8 +1,8 @@
 -- Transitions as a flat list from, to, from, to, ..; a state's successors; and what makes the list a graph of S states.
 use mathlib.Core.Path.{_≡_}
-use Prim.Native.Nat.{ℕ, zero, suc, _+_, _*_, _-_, _/_, _<_, _≤_}
+use Prim.Native.Nat.{ℕ, zero, suc, _+_, _*_, _-_, _/_, _<_}
 use mathlib.Core.List.{List, [], _∷_}
-use mathlib.Core.Bool.{Bool, true, false, cond, _&&_, _||_}
+use mathlib.Core.Bool.{Bool, true, cond, _&&_, _||_}
 use mathlib.Core.Logic.{_⊎_}
 use lib.ListN.{length}
 use lib.Dec.{eqb, ltb}
@@ -55,10 +55,3 @@ firstOut (f ∷ t ∷ es) s = cond (ltb f s) (suc (firstOut es s)) 0
 unfoldable pub ends : List ℕ → ℕ → ℕ → List ℕ
 ends es k zero = []
 ends es k (suc n) = to es k ∷ ends es (suc k) n
-
--- begins says for each state where its transitions begin; they end where those of the next state begin
-pub record Begun (S : ℕ) (es begins : List ℕ) : Type 0 where
-  pub room : S < length begins
-  pub rises : (s : ℕ) → s < S → at begins s < at begins (s + 1)
-  pub within : (s : ℕ) → s ≤ S → at begins s ≤ count es
-  pub lists : (s : ℕ) → s < S → succs es s ≡ ends es (at begins s) (at begins (s + 1) - at begins s)

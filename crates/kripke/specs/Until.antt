@@ -6,7 +6,7 @@ use lib.ListN.{length, take}
 use Rattle.lists.specs.Entries.{at}
 use Rattle.lists.specs.Rows.{tab}
 use Rattle.lists.specs.Choosing.{best, lowest}
-use Rattle.kripke.specs.Values.{choose}
+use Rattle.values.specs.Values.{choose}
 use Rattle.kripke.specs.Transitions.{succs}
 use Rattle.kripke.specs.Walks.{walks}
 

@@ -1,6 +1,6 @@
 // States and transitions: the refusals 1 and 6 to 9, and where each state's transitions begin.
-use crate::limits::MOST_STATES;
-use crate::limits::MOST_TRANSITION_NUMBERS;
+use values::limits::MOST_STATES;
+use values::limits::MOST_TRANSITION_NUMBERS;
 ghost use mathlib.Core.Path.{_≡_};
 ghost use Prim.Native.Nat.{ℕ, _+_, _<_, _≤_};
 ghost use lib.ListN.{length};
@@ -8,9 +8,10 @@ ghost use lib.Dec.{eqb};
 ghost use Rattle.lists.specs.Entries.{at, anyBelow};
 ghost use Rattle.lists.specs.Rows.{Filled};
 ghost use Rattle.lists.specs.Causes.{refusalOf};
-ghost use Rattle.kripke.specs.Limits.{mostTransitions};
+ghost use Rattle.values.specs.Limits.{mostTransitions};
 ghost use Rattle.kripke.specs.Transitions.{count, Ascending, firstOut};
 ghost use Rattle.kripke.specs.Refusals as refusals;
+ghost use Rattle.kripke.specs.Inside as inside;
 ghost use Rattle.kripke.specs.Answers.{transitionsRead};
 
 // The number of the refusal, or 0 and for each state where its transitions begin, and behind the last
@@ -60,7 +61,7 @@ fn falls(transitions: &[u16], k: usize) -> bool
 
 // 7 or 8, or 0: one pass over the transitions.
 fn scan_fault(states: usize, transitions: &[u16]) -> u8
-    ensures { λ r. ⌜ r ≡ refusalOf (refusals.scanCauses states (now (transitions .entry))) ⌝ }
+    ensures { λ r. ⌜ r ≡ refusalOf (inside.scanCauses states (now (transitions .entry))) ⌝ }
 {
     let n = transitions.len() / 2;
     let mut fell = false;
@@ -82,7 +83,7 @@ fn scan_fault(states: usize, transitions: &[u16]) -> u8
 
 // 1, 6, 7 or 8, or 0.
 fn early_fault(states: usize, transitions: &[u16]) -> u8
-    ensures { λ r. ⌜ r ≡ refusalOf (refusals.earlyCauses states (now (transitions .entry))) ⌝ }
+    ensures { λ r. ⌜ r ≡ refusalOf (inside.earlyCauses states (now (transitions .entry))) ⌝ }
 {
     if states == 0 {
         return 1;

@@ -8,8 +8,8 @@ use native.Mathlib.Omega.{arith}
 use native.Mathlib.Nat.{eq-zero-or-pos, le-antisymm}
 use lib.Dec.{eqb}
 use borrow.Author.Tests.{ne-eqb}
-use Rattle.lists.specs.Causes.{Applies, Cause, Given, Rising, cause, refusalOf}
-use Rattle.lists.specs.Choosing.{lowest}
+use Rattle.lists.specs.Entries.{All}
+use Rattle.lists.specs.Causes.{Applies, Cause, Lowest, Rising, cause, refusalOf}
 
 -- a number that applies stands above what the rows rise from
 above : (m : ℕ) (cs : List Cause) → Rising m cs → (n : ℕ) → Applies cs n → m < n
@@ -17,12 +17,12 @@ above m [] r n a = absurd a
 above m (c ∷ cs) r n a = ⊎-elim (λ (p : (c .number ≡ n) × (c .holds ≡ true)). omega (arith, p .0, r .0)) (λ q. omega (arith, above (c .number) cs (r .1) n q, r .0)) a
 
 -- the first cause that applies is the lowest
-pub given : (m : ℕ) (cs : List Cause) → Rising m cs → Given cs (refusalOf cs)
+pub given : (m : ℕ) (cs : List Cause) → Rising m cs → Lowest (Applies cs) (refusalOf cs)
 unfolding refusalOf
 given m [] r = record { applies = λ h. h refl; lowest = λ n a. absurd a }
 given m (c ∷ cs) r = go (c .holds) refl (given (c .number) cs (r .1))
   where
-    go : (b : Bool) → c .holds ≡ b → Given cs (refusalOf cs) → Given (c ∷ cs) (cond b (c .number) (refusalOf cs))
+    go : (b : Bool) → c .holds ≡ b → Lowest (Applies cs) (refusalOf cs) → Lowest (Applies (c ∷ cs)) (cond b (c .number) (refusalOf cs))
     go true e g =
         record {
           applies = λ h. inl (refl, e);
@@ -34,9 +34,9 @@ given m (c ∷ cs) r = go (c .holds) refl (given (c .number) cs (r .1))
           lowest = λ n a. ⊎-elim (λ (p : (c .number ≡ n) × (c .holds ≡ true)). absurd (true≢false (sym (p .1) ∙ e))) (λ q. g .lowest n q) a;
         }
 
--- no two numbers are given for one table
-pub given-one : (cs : List Cause) (n n′ : ℕ) → Given cs n → Given cs n′ → n ≡ n′
-given-one cs n n′ g g′ = go (eq-zero-or-pos n) (eq-zero-or-pos n′)
+-- no two numbers are the lowest that applies
+pub lowest-one : {P : ℕ → Type 0} {n n′ : ℕ} → Lowest P n → Lowest P n′ → n ≡ n′
+lowest-one {P} {n} {n′} g g′ = go (eq-zero-or-pos n) (eq-zero-or-pos n′)
   where
     go : (n ≡ 0) ⊎ (0 < n) → (n′ ≡ 0) ⊎ (0 < n′) → n ≡ n′
     go (inl e) (inl e′) = e ∙ sym e′
@@ -66,6 +66,12 @@ pub passed : (n : ℕ) (b : Bool) (cs : List Cause) → refusalOf (cause (suc n)
 unfolding refusalOf
 passed n true cs e = absurd (omega arith)
 passed n false cs e = (refl, e)
+
+-- a number that applies is among those of the causes that may
+pub applies-among : (P : ℕ → Bool) (cs : List Cause) (n : ℕ) → Applies cs n → All (λ (c : Cause). (P (c .number) ≡ true) ⊎ (c .holds ≡ false)) cs → P n ≡ true
+applies-among P [] n a h = absurd a
+applies-among P (c ∷ cs) n (inl a) h = ⊎-elim (λ (p : P (c .number) ≡ true). ap P (sym (a .0)) ∙ p) (λ (q : c .holds ≡ false). absurd (true≢false (sym (a .1) ∙ q))) (h .0)
+applies-among P (c ∷ cs) n (inr a) h = applies-among P cs n a (h .1)
 
 -- a table in two parts: the first part's number, or the second's where the first gives none
 pub refusal-append : (m : ℕ) (cs ds : List Cause) → Rising m cs → refusalOf (cs ++ ds) ≡ cond (eqb (refusalOf cs) 0) (refusalOf ds) (refusalOf cs)

@@ -1,9 +1,9 @@
 -- Laws of `best`: over joined lists, through a rule, against another list, and by its levels.
 use mathlib.Core.Path.{_≡_, refl, sym, ap, _∙_, subst}
-use Prim.Native.Nat.{ℕ, zero, suc, _≤_, _<_, min, max}
+use Prim.Native.Nat.{ℕ, max}
 use native.Mathlib.Omega.{arith}
 use mathlib.Core.List.{List, [], _∷_, _++_, map, map-append, append-nil, List·Memᴰ, List·Memᴰ·head, List·Memᴰ·tail}
-use mathlib.Core.Logic.{_⊎_, inl, inr, ⊎-elim}
+use mathlib.Core.Logic.{_⊎_, ⊎-elim}
 use Rattle.lists.specs.Entries.{Some, All}
 use Rattle.lists.specs.Rows.{each}
 use Rattle.lists.specs.Choosing.{best}
@@ -59,11 +59,6 @@ module _ (op : ℕ → ℕ → ℕ) (assoc : (a b c : ℕ) → op (op a b) c ≡
   run-best x [] = refl
   run-best x (y ∷ []) = refl
   run-best x (y ∷ z ∷ zs) = run-best (op x y) (z ∷ zs) ∙ assoc x y (best op (z ∷ zs))
-
-  pub run-from : (u : ℕ) (xs : List ℕ) → All (λ (x : ℕ). op u x ≡ x) xs → Some xs → run op u xs ≡ best op xs
-  unfolding run
-  run-from u [] a s = absurd s
-  run-from u (x ∷ xs) a s = ap (λ (v : ℕ). run op v xs) (a .0) ∙ run-best x xs
 
 module _ {A : Type 0} (op : ℕ → ℕ → ℕ) (f : A → ℕ) where
   -- the best is the value of an entry

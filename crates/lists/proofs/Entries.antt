@@ -24,11 +24,6 @@ pub nil-of {ℓ} : {A : Type ℓ} (xs : List A) → Some xs → isNil xs ≡ fal
 nil-of [] h = absurd h
 nil-of (x ∷ xs) h = refl
 
--- a list with an entry has a first one
-pub some-first : {A : Type 0} (xs : List A) → Some xs → (x : A) × List·Memᴰ x xs
-some-first [] h = absurd h
-some-first (x ∷ xs) h = (x, List·Memᴰ·head refl)
-
 -- what holds of each entry holds at each place, and back; past the end stands d
 pub all-get : {A : Type 0} (P : A → Type 0) (d : A) (xs : List A) → All P xs → (k : ℕ) → k < length xs → P (getD xs k d)
 all-get P d [] a k h = absurd (omega arith)
@@ -41,9 +36,6 @@ all-from P d (x ∷ xs) h = (h 0 (omega arith), all-from P d xs (λ k l. h (suc 
 
 pub all-at : (P : ℕ → Type 0) (xs : List ℕ) → All P xs → (i : ℕ) → i < length xs → P (at xs i)
 all-at P xs = all-get P 0 xs
-
-pub all-of : (P : ℕ → Type 0) (xs : List ℕ) → ((i : ℕ) → i < length xs → P (at xs i)) → All P xs
-all-of P xs = all-from P 0 xs
 
 pub all-member : {A : Type 0} (P : A → Type 0) (xs : List A) → All P xs → (x : A) → List·Memᴰ x xs → P x
 all-member P (y ∷ ys) a x (List·Memᴰ·head e) = subst P (sym e) (a .0)

@@ -1,6 +1,6 @@
 -- Two numbers compared, and a number told by the levels that it reaches.
 use mathlib.Core.Path.{_≡_, refl}
-use Prim.Native.Nat.{ℕ, suc, _≤_, _<_, min, max}
+use Prim.Native.Nat.{ℕ, suc, _≤_, _<_, max}
 use native.Mathlib.Omega.{arith}
 use mathlib.Core.Bool.{Bool, true, false}
 use mathlib.Core.Logic.{_⊎_, inl, inr, ⊎-elim}
@@ -21,6 +21,3 @@ last-or-before h = eq-or-lt-of-le (omega arith)
 
 pub reach-max : (w a b : ℕ) → w ≤ max a b → (w ≤ a) ⊎ (w ≤ b)
 reach-max w a b h = ⊎-elim (λ (l : a < w). inr (omega arith)) inl (lt-or-le a w)
-
-pub miss-min : (w a b : ℕ) → min a b < w → (a < w) ⊎ (b < w)
-miss-min w a b h = ⊎-elim inl (λ (l : w ≤ a). inr (omega arith)) (lt-or-le a w)

@@ -28,7 +28,7 @@ abbrev pub Rising : ℕ → List Cause → Type 0
 Rising m [] = Unit {0}
 Rising m (c ∷ cs) = (m < c .number) × Rising (c .number) cs
 
--- n is the lowest number that applies, or 0 where none does
-pub record Given (cs : List Cause) (n : ℕ) : Type 0 where
-  pub applies : (n ≡ 0 → ⊥) → Applies cs n
-  pub lowest : (m : ℕ) → Applies cs m → (0 < n) × (n ≤ m)
+-- n is the lowest number that applies, and given only then: 0 where none does
+pub record Lowest (Applying : ℕ → Type 0) (n : ℕ) : Type 0 where
+  pub applies : (n ≡ 0 → ⊥) → Applying n
+  pub lowest : (m : ℕ) → Applying m → (0 < n) × (n ≤ m)

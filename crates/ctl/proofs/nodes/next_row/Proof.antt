@@ -8,7 +8,7 @@ use Rattle.kripke.specs.Until.{next}
 use Rattle.lists.specs.Rows.{Filled}
 use Rattle.ctl.proofs.Scan.{left}
 use Rattle.lists.proofs.Rows.{filled-end, filled-length, filled-more, filled-none, filled-room}
-use Rattle.kripke.specs.declared.values.Verdict.{Verdict}
+use Rattle.values.specs.declared.verdict.Verdict.{Verdict}
 use Rattle.ctl.proofs.nodes.next_row.Statement.{statement}
 use Rattle.ctl.proofs.nodes.next_row.Tie as tie
 

@@ -2,8 +2,9 @@
 use mathlib.Core.Path.{sym, ap}
 use Prim.Native.Nat.{ℕ}
 use borrow.Author.Needs.{needs}
-use Rattle.ctl.specs.Answers.{modelOf}
-use Rattle.ctl.specs.Nodes.{kindOf, nodeValue}
+use Rattle.ctl.specs.Inside.{structureOf}
+use Rattle.model.specs.Kinds.{kindOf}
+use Rattle.ctl.specs.Nodes.{nodeValue}
 use Rattle.ctl.proofs.KindLaws.{plain-node}
 use Rattle.lists.proofs.Rows.{filled-same}
 use Rattle.ctl.proofs.nodes.node_row.Statement.{statement}
@@ -20,7 +21,7 @@ returns : tie.Need-returns
 unfolding kindOf nodeValue
 returns c =
     let x = c .before .before .before .before .before .before .before .before .before .before .before .args in
-    filled-same _ _ _ _ _ (λ s l. ap (λ (k : ℕ). nodeValue (modelOf (x .states) (x .atoms) (x .labels .now) (x .transitions .now)) (kindOf k) (x .number) (x .left .now) (x .right .now) s) (sym (c .before .before .before .before .if1 .taken))) (c .before .before .atom-row .ensures)
+    filled-same _ _ _ _ _ (λ s l. ap (λ (k : ℕ). nodeValue (structureOf (x .states) (x .atoms) (x .labels .now) (x .transitions .now)) (kindOf k) (x .number) (x .left .now) (x .right .now) s) (sym (c .before .before .before .before .if1 .taken))) (c .before .before .atom-row .ensures)
 
 next-row-requires : tie.Need-next-row-requires
 next-row-requires c κs = (c .before .before .before .before .before .before .before .before .before .pre .0 .tables, c .before .before .before .before .before .before .before .before .before .pre .2, c .before .before .before .before .before .before .before .before .before .pre .4)
@@ -32,7 +33,7 @@ returns-2 : tie.Need-returns-2
 unfolding kindOf nodeValue
 returns-2 c =
     let x = c .before .before .before .before .before .before .before .before .before .before .before .before .args in
-    filled-same _ _ _ _ _ (λ s l. ap (λ (k : ℕ). nodeValue (modelOf (x .states) (x .atoms) (x .labels .now) (x .transitions .now)) (kindOf k) (x .number) (x .left .now) (x .right .now) s) (sym (c .before .before .before .before .if2 .taken))) (c .before .before .next-row .ensures)
+    filled-same _ _ _ _ _ (λ s l. ap (λ (k : ℕ). nodeValue (structureOf (x .states) (x .atoms) (x .labels .now) (x .transitions .now)) (kindOf k) (x .number) (x .left .now) (x .right .now) s) (sym (c .before .before .before .before .if2 .taken))) (c .before .before .next-row .ensures)
 
 until-row-requires : tie.Need-until-row-requires
 until-row-requires c κs = (record { tables = c .before .before .before .before .before .before .before .before .before .before .pre .0 .tables; left-room = c .before .before .before .before .before .before .before .before .before .before .pre .2; right-room = c .before .before .before .before .before .before .before .before .before .before .pre .3 }, c .before .before .before .before .before .before .before .before .before .before .pre .4)
@@ -44,7 +45,7 @@ returns-3 : tie.Need-returns-3
 unfolding kindOf nodeValue
 returns-3 c =
     let x = c .before .before .before .before .before .before .before .before .before .before .before .before .before .args in
-    filled-same _ _ _ _ _ (λ s l. ap (λ (k : ℕ). nodeValue (modelOf (x .states) (x .atoms) (x .labels .now) (x .transitions .now)) (kindOf k) (x .number) (x .left .now) (x .right .now) s) (sym (c .before .before .before .before .if3 .taken))) (c .before .before .until-row .ensures)
+    filled-same _ _ _ _ _ (λ s l. ap (λ (k : ℕ). nodeValue (structureOf (x .states) (x .atoms) (x .labels .now) (x .transitions .now)) (kindOf k) (x .number) (x .left .now) (x .right .now) s) (sym (c .before .before .before .before .if3 .taken))) (c .before .before .until-row .ensures)
 
 until-row-requires-2 : tie.Need-until-row-requires-2
 until-row-requires-2 c κs = (record { tables = c .before .before .before .before .before .before .before .before .before .before .before .pre .0 .tables; left-room = c .before .before .before .before .before .before .before .before .before .before .before .pre .2; right-room = c .before .before .before .before .before .before .before .before .before .before .before .pre .3 }, c .before .before .before .before .before .before .before .before .before .before .before .pre .4)
@@ -56,7 +57,7 @@ returns-4 : tie.Need-returns-4
 unfolding kindOf nodeValue
 returns-4 c =
     let x = c .before .before .before .before .before .before .before .before .before .before .before .before .before .before .args in
-    filled-same _ _ _ _ _ (λ s l. ap (λ (k : ℕ). nodeValue (modelOf (x .states) (x .atoms) (x .labels .now) (x .transitions .now)) (kindOf k) (x .number) (x .left .now) (x .right .now) s) (sym (c .before .before .before .before .if4 .taken))) (c .before .before .until-row2 .ensures)
+    filled-same _ _ _ _ _ (λ s l. ap (λ (k : ℕ). nodeValue (structureOf (x .states) (x .atoms) (x .labels .now) (x .transitions .now)) (kindOf k) (x .number) (x .left .now) (x .right .now) s) (sym (c .before .before .before .before .if4 .taken))) (c .before .before .until-row2 .ensures)
 
 plain-row-requires : tie.Need-plain-row-requires
 plain-row-requires c κs = (c .before .before .before .before .before .before .before .before .before .before .before .pre .2, c .before .before .before .before .before .before .before .before .before .before .before .pre .3, c .before .before .before .before .before .before .before .before .before .before .before .pre .4)

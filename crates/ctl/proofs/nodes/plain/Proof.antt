@@ -3,8 +3,8 @@ use mathlib.Core.Path.{sym, ap, _∙_}
 use Prim.Native.Nat.{ℕ}
 use borrow.Author.Needs.{needs}
 use Rattle.ctl.specs.Inside.{plainValue}
-use Rattle.ctl.specs.Nodes.{kindOf}
-use Rattle.kripke.specs.Answers.{verdict}
+use Rattle.model.specs.Kinds.{kindOf}
+use Rattle.values.specs.Answers.{verdict}
 use Rattle.ctl.proofs.KindLaws.{plain-rest}
 use Rattle.ctl.proofs.nodes.plain.Statement.{statement}
 use Rattle.ctl.proofs.nodes.plain.Tie as tie

@@ -4,12 +4,12 @@ use Prim.Native.Nat.{ℕ, _-_, _≤_}
 use native.Mathlib.Omega.{arith}
 use borrow.Author.Needs.{needs}
 use Rattle.ctl.specs.Inside.{plainValue}
-use Rattle.ctl.specs.Nodes.{kindOf}
+use Rattle.model.specs.Kinds.{kindOf}
 use Rattle.lists.specs.Entries.{at}
 use Rattle.lists.specs.Rows.{Filled}
 use Rattle.ctl.proofs.Scan.{left}
 use Rattle.lists.proofs.Rows.{filled-end, filled-length, filled-more, filled-none, filled-room}
-use Rattle.kripke.specs.declared.values.Verdict.{Verdict}
+use Rattle.values.specs.declared.verdict.Verdict.{Verdict}
 use Rattle.ctl.proofs.nodes.plain_row.Statement.{statement}
 use Rattle.ctl.proofs.nodes.plain_row.Tie as tie
 

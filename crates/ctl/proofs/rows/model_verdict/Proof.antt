@@ -2,7 +2,7 @@
 use mathlib.Core.Path.{ap, _∙_}
 use native.Mathlib.Omega.{arith}
 use borrow.Author.Needs.{needs}
-use Rattle.kripke.specs.Answers.{verdict}
+use Rattle.values.specs.Answers.{verdict}
 use Rattle.ctl.proofs.OverInitial.{initial-same}
 use Rattle.ctl.proofs.rows.model_verdict.Statement.{statement}
 use Rattle.ctl.proofs.rows.model_verdict.Tie as tie

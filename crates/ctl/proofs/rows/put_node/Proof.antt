@@ -4,7 +4,9 @@ use Prim.Native.Nat.{ℕ, _+_, _*_}
 use mathlib.Core.List.{List}
 use native.Mathlib.Omega.{arith}
 use borrow.Author.Needs.{needs}
-use Rattle.ctl.specs.Inside.{nodeRowAt, withRowAt}
+use Rattle.lists.specs.Rows.{laid}
+use Rattle.values.specs.Rows.{rowBegin, storedRow}
+use Rattle.ctl.specs.Inside.{nodeRowAt, structureOf}
 use Rattle.ctl.proofs.FineRows.{node-row-same}
 use Rattle.lists.proofs.Rows.{filled-front}
 use Rattle.ctl.proofs.rows.put_node.Statement.{statement}
@@ -78,7 +80,7 @@ returns : tie.Need-returns
 unfolding nodeRowAt
 returns c =
     let x = c .before .before .before .before .before .before .before .before .before .before .before .before .before .before .before .before .before .before .before .before .before .before .before .before .before .before .args in
-    c .before .before .put-row .ensures ∙ ap (λ (r : List ℕ). withRowAt (x .states) (x .i) r (x .verdicts .now)) (filled-front _ _ _ _ (c .before .before .before .before .before .before .node-row .ensures) ∙ node-row-same (x .states) (x .atoms) (x .labels .now) (x .transitions .now) _ _ _ _ _ _ (c .before .before .before .before .before .before .before .before .before .before .before .before .before .before .before .before .operand .ensures .here) (c .before .before .before .before .before .before .before .before .before .before .before .before .before .before .operand2 .ensures .here))
+    c .before .before .put-row .ensures ∙ ap (λ (r : List ℕ). laid (rowBegin (x .states) (x .i)) (storedRow r) (x .verdicts .now)) (filled-front _ _ _ _ (c .before .before .before .before .before .before .node-row .ensures) ∙ node-row-same (structureOf (x .states) (x .atoms) (x .labels .now) (x .transitions .now)) _ _ _ _ _ _ (c .before .before .before .before .before .before .before .before .before .before .before .before .before .before .before .before .operand .ensures .here) (c .before .before .before .before .before .before .before .before .before .before .before .before .before .before .operand2 .ensures .here))
 
 pub put-node-spec : {M : Type 1} → statement M
 put-node-spec =

@@ -5,7 +5,7 @@ use native.Mathlib.Omega.{arith}
 use lib.ListN.{length, take}
 use lib.Seq.{length-take-le}
 use borrow.Author.Needs.{needs}
-use Rattle.kripke.specs.Rows.{rowBegin, rowSize}
+use Rattle.values.specs.Rows.{rowBegin, rowSize}
 use Rattle.ctl.proofs.PutRow.{begins-within, put-part}
 use Rattle.ctl.proofs.rows.put_row.Statement.{statement}
 use Rattle.ctl.proofs.rows.put_row.Tie as tie

@@ -9,13 +9,13 @@ slice-aggregate-round : tie.Need-slice-aggregate-round
 slice-aggregate-round c = search needs
 
 round-requires : tie.Need-round-requires
-round-requires c κs = (c .before .before .before .before .before .before .before .pre .0, c .before .before .before .before .before .before .before .pre .1, omega (arith, c .before .before .before .before .before .before .before .pre .0 .tables .few))
+round-requires c κs = (c .before .before .before .before .before .before .before .pre .0, c .before .before .before .before .before .before .before .pre .1, omega (arith, c .before .before .before .before .before .before .before .pre .0 .tables .accepted .few))
 
 slice-aggregate-take-row : tie.Need-slice-aggregate-take-row
 slice-aggregate-take-row c = search needs
 
 take-row-requires : tie.Need-take-row-requires
-take-row-requires c κs = (omega (arith, c .before .before .before .before .before .before .before .before .before .before .before .pre .0 .tables .few, c .before .before .before .round .kept .1 .1 .1 .1 .1 .1 .1 .0), c .before .before .before .before .before .before .before .before .before .before .before .pre .1)
+take-row-requires c κs = (omega (arith, c .before .before .before .before .before .before .before .before .before .before .before .pre .0 .tables .accepted .few, c .before .before .before .round .kept .1 .1 .1 .1 .1 .1 .1 .0), c .before .before .before .before .before .before .before .before .before .before .before .pre .1)
 
 same-length : tie.Need-same-length
 same-length c = search needs

@@ -4,11 +4,11 @@ use Prim.Native.Nat.{ℕ, _+_, _*_, _-_, _≤_, _<_}
 use native.Mathlib.Omega.{arith}
 use lib.ListN.{length}
 use borrow.Author.Needs.{needs}
-use Rattle.kripke.specs.Answers.{verdict}
+use Rattle.values.specs.Answers.{verdict}
 use Rattle.lists.specs.Choosing.{best}
 use Rattle.ctl.proofs.Scan.{left, left-all, left-more, left-none}
 use Rattle.lists.proofs.Entries.{all-at}
-use Rattle.kripke.specs.declared.values.Verdict.{Verdict}
+use Rattle.values.specs.declared.verdict.Verdict.{Verdict}
 use Rattle.ctl.proofs.until.best_end.Statement.{statement}
 use Rattle.ctl.proofs.until.best_end.Tie as tie
 

@@ -2,8 +2,8 @@
 use mathlib.Core.Path.{sym, ap, _∙_}
 use mathlib.Core.Bool.{Bool}
 use borrow.Author.Needs.{needs}
-use Rattle.kripke.specs.Answers.{verdict}
-use Rattle.kripke.specs.Values.{choose}
+use Rattle.values.specs.Answers.{verdict}
+use Rattle.values.specs.Values.{choose}
 use Rattle.ctl.proofs.until.chosen.Statement.{statement}
 use Rattle.ctl.proofs.until.chosen.Tie as tie
 

@@ -4,7 +4,7 @@ use Prim.Native.Nat.{ℕ, _+_, _<_}
 use native.Mathlib.Omega.{arith}
 use lib.ListN.{length}
 use borrow.Author.Needs.{needs}
-use Rattle.kripke.specs.Answers.{verdict}
+use Rattle.values.specs.Answers.{verdict}
 use Rattle.ctl.proofs.Scan.{next-ends}
 use Rattle.lists.proofs.Entries.{all-weaken}
 use Rattle.ctl.proofs.until.next_at.Statement.{statement}
@@ -36,7 +36,7 @@ best-end-requires c κs =
     let st = c .before .before .before .before .before in
     let x = st .args in
     let b = st .pre .0 .begun in
-    (b .rises (x .s) (st .pre .2), b .within (x .s + 1) (omega arith), all-weaken (λ (t : ℕ). t < x .states) (λ (t : ℕ). t < length (x .row .now)) (λ t l. omega (arith, st .pre .1)) (x .transitions .now) (st .pre .0 .graph .ends))
+    (b .rises (x .s) (st .pre .2), b .within (x .s + 1) (omega arith), all-weaken (λ (t : ℕ). t < x .states) (λ (t : ℕ). t < length (x .row .now)) (λ t l. omega (arith, st .pre .1)) (x .transitions .now) (st .pre .0 .accepted .graph .ends))
 
 returns : tie.Need-returns
 returns c =

@@ -7,7 +7,7 @@ use Rattle.ctl.specs.Inside.{stepped}
 use Rattle.lists.specs.Rows.{Filled}
 use Rattle.ctl.proofs.Scan.{left}
 use Rattle.lists.proofs.Rows.{filled-end, filled-length, filled-more, filled-none, filled-room}
-use Rattle.kripke.specs.declared.values.Verdict.{Verdict}
+use Rattle.values.specs.declared.verdict.Verdict.{Verdict}
 use Rattle.ctl.proofs.until.round.Statement.{statement}
 use Rattle.ctl.proofs.until.round.Tie as tie
 

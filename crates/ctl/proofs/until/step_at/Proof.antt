@@ -4,9 +4,9 @@ use Prim.Native.Nat.{min, max}
 use native.Mathlib.Omega.{arith}
 use borrow.Author.Needs.{needs}
 use Rattle.ctl.specs.Inside.{stepped}
-use Rattle.kripke.specs.Answers.{verdict}
+use Rattle.values.specs.Answers.{verdict}
 use Rattle.lists.specs.Entries.{at}
-use Rattle.kripke.specs.declared.values.Verdict.{Verdict}
+use Rattle.values.specs.declared.verdict.Verdict.{Verdict}
 use Rattle.ctl.proofs.until.step_at.Statement.{statement}
 use Rattle.ctl.proofs.until.step_at.Tie as tie
 

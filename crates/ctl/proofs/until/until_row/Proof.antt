@@ -22,7 +22,7 @@ abbrev μ-loop : tie.MeasureT-loop
 
 -- the right row, copied: the values over walks of one state
 started : (c : tie.After-take-row Inv-loop μ-loop) → Filled (until (c .before .before .before .before .before .before .before .args .all) (c .before .before .before .before .before .before .before .args .transitions .now) (c .before .before .before .before .before .before .before .args .left .now) (c .before .before .before .before .before .before .before .args .right .now) 1) (c .before .before .before .before .before .before .before .args .states) (c .before .before .before .before .before .before .before .args .row .now) (c .take-row .last .1 .1 .0)
-started c = right-row (c .before .before .before .before .before .before .before .args .all) (c .before .before .before .before .before .before .before .args .states) (c .before .before .before .before .before .before .before .args .transitions .now) (c .before .before .before .before .before .before .before .pre .0 .tables .graph) (c .before .before .before .before .before .before .before .args .left .now) (c .before .before .before .before .before .before .before .args .right .now) _ _ (c .take-row .ensures .0)
+started c = right-row (c .before .before .before .before .before .before .before .args .all) (c .before .before .before .before .before .before .before .args .states) (c .before .before .before .before .before .before .before .args .transitions .now) (c .before .before .before .before .before .before .before .pre .0 .tables .accepted .graph) (c .before .before .before .before .before .before .before .args .left .now) (c .before .before .before .before .before .before .before .args .right .now) _ _ (c .take-row .ensures .0)
 
 -- the row is as long as it came
 same-long : (c : tie.At-loop Inv-loop μ-loop) → length (c .loop .row) ≡ length (c .before .before .before .before .before .before .before .before .before .before .args .row .now)
@@ -30,13 +30,13 @@ same-long c = c .loop .inv .3 ∙ c .before .before .before .take-row .kept .1 .
 
 -- one round more
 advanced : (c : tie.After-advance Inv-loop μ-loop) → Filled (until (c .before .before .before .before .before .before .before .before .before .before .before .before .before .args .all) (c .before .before .before .before .before .before .before .before .before .before .before .before .before .args .transitions .now) (c .before .before .before .before .before .before .before .before .before .before .before .before .before .args .left .now) (c .before .before .before .before .before .before .before .before .before .before .before .before .before .args .right .now) (c .before .before .before .loop .k + 1)) (c .before .before .before .before .before .before .before .before .before .before .before .before .before .args .states) (c .before .before .before .before .before .before .take-row .last .1 .1 .0) (c .advance .last .1 .1 .1 .1 .1 .1 .0)
-advanced c = round-row (c .before .before .before .before .before .before .before .before .before .before .before .before .before .args .all) (c .before .before .before .before .before .before .before .before .before .before .before .before .before .args .states) (c .before .before .before .before .before .before .before .before .before .before .before .before .before .args .transitions .now) (c .before .before .before .before .before .before .before .before .before .before .before .before .before .pre .0 .tables .graph) (c .before .before .before .before .before .before .before .before .before .before .before .before .before .args .left .now) (c .before .before .before .before .before .before .before .before .before .before .before .before .before .args .right .now) (c .before .before .before .loop .k) _ (c .before .before .before .loop .row) _ (c .before .before .before .loop .inv .0) (c .before .before .before .loop .inv .2) (c .advance .ensures .0)
+advanced c = round-row (c .before .before .before .before .before .before .before .before .before .before .before .before .before .args .all) (c .before .before .before .before .before .before .before .before .before .before .before .before .before .args .states) (c .before .before .before .before .before .before .before .before .before .before .before .before .before .args .transitions .now) (c .before .before .before .before .before .before .before .before .before .before .before .before .before .pre .0 .tables .accepted .graph) (c .before .before .before .before .before .before .before .before .before .before .before .before .before .args .left .now) (c .before .before .before .before .before .before .before .before .before .before .before .before .before .args .right .now) (c .before .before .before .loop .k) _ (c .before .before .before .loop .row) _ (c .before .before .before .loop .inv .0) (c .before .before .before .loop .inv .2) (c .advance .ensures .0)
 
 take-row-requires : tie.Need-take-row-requires Inv-loop μ-loop
 take-row-requires c κs = (c .before .before .before .before .before .before .pre .0 .right-room, c .before .before .before .before .before .before .pre .1)
 
 loop-holds : tie.Need-loop-holds Inv-loop μ-loop
-loop-holds c = (omega arith, omega (arith, c .before .before .before .before .before .before .before .before .before .pre .0 .tables .some), filled-self _ _ _ _ (started (c .before .before)), refl)
+loop-holds c = (omega arith, omega (arith, c .before .before .before .before .before .before .before .before .before .pre .0 .tables .accepted .some), filled-self _ _ _ _ (started (c .before .before)), refl)
 
 advance-requires : tie.Need-advance-requires Inv-loop μ-loop
 advance-requires c κs = (c .before .before .before .before .before .before .before .before .before .before .before .before .pre .0, omega (arith, c .before .before .before .before .before .before .before .before .before .before .before .before .pre .1, same-long (c .before .before)))
@@ -49,7 +49,7 @@ returns c =
     let x = c .before .before .before .before .before .before .before .before .before .before .before .before .before .before .before .before .args in
     let l = c .before .before .before .before .before .before .loop in
     let same = c .before .before .before .advance .ensures .1 (not-true _ (c .if1 .taken)) in
-    filled-again _ _ _ _ _ _ (started (c .before .before .before .before .before .before .before .before .before)) (rested (x .all) (x .states) (x .transitions .now) (c .before .before .before .before .before .before .before .before .before .before .before .before .before .before .before .before .pre .0 .tables .graph) (x .left .now) (x .right .now) (l .k) _ _ (l .inv .0) (l .inv .1) (same ∙ l .inv .2) (advanced (c .before .before .before)))
+    filled-again _ _ _ _ _ _ (started (c .before .before .before .before .before .before .before .before .before)) (rested (x .all) (x .states) (x .transitions .now) (c .before .before .before .before .before .before .before .before .before .before .before .before .before .before .before .before .pre .0 .tables .accepted .graph) (x .left .now) (x .right .now) (l .k) _ _ (l .inv .0) (l .inv .1) (same ∙ l .inv .2) (advanced (c .before .before .before)))
 
 add-k : tie.Need-add-k Inv-loop μ-loop
 add-k c = search needs

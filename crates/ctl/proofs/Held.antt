@@ -1,0 +1,96 @@
+-- What a space holds after judging: each row where it begins, value by value, and beyond the last row what was there.
+use mathlib.Core.Path.{_≡_, sym, ap, ap₂, _∙_, subst}
+use Prim.Native.Nat.{ℕ, _≤_, _<_}
+use mathlib.Core.List.{List, []}
+use mathlib.Core.Bool.{false, not}
+use native.Mathlib.Omega.{arith}
+use lib.ListN.{length, getD, drop}
+use lib.Seq.{drop-at}
+use lib.Dec.{ltb}
+use borrow.Author.Tests.{lt-ltb, ltb-true, not-false}
+use Rattle.lists.specs.Entries.{All, at}
+use Rattle.lists.specs.Rows.{fill}
+use Rattle.values.specs.Limits.{mostStates}
+use Rattle.values.specs.Rows.{badRow, held, rowBegin, rowIn, rowValues}
+use Rattle.kripke.specs.Until.{next, until}
+use Rattle.model.specs.Kinds.{bound, kindOf, uses}
+use Rattle.model.specs.Model.{Model, kindAt, leftAt, nodeCount, rightAt}
+use Rattle.ctl.specs.Answers.{numberDue}
+use Rattle.ctl.specs.Inside.{operandRow}
+use Rattle.ctl.specs.Nodes.{nodeRow, nodeValue}
+use Rattle.ctl.specs.Rows.{rowsOf, storedRows, verdictAt}
+use Rattle.ctl.proofs.FineRows.{rows-fine}
+use Rattle.ctl.proofs.NodeLists.{row-of-node, rows-count, rows-whole}
+use Rattle.ctl.proofs.Spaces.{RowFine, operand-in-space, rows-fit, stored-length, value-in-space}
+use Rattle.kripke.proofs.Refusals.{accepted}
+use Rattle.lists.proofs.Rows.{tab-at}
+use Rattle.lists.proofs.Tests.{or-neither}
+use Rattle.model.proofs.Fine.{judge-fine}
+
+module _ (m : Model) (before : List ℕ) (z : numberDue m before ≡ 0) (after : List ℕ) (e : after ≡ fill (storedRows (rowsOf m)) before) where
+  abbrev S : ℕ
+  S = m .states
+
+  abbrev ns : List ℕ
+  ns = m .nodes
+
+  all-fine : All (RowFine S) (rowsOf m)
+  unfolding rowsOf
+  all-fine = rows-fine m (judge-fine m (length before) z .small) ns
+
+  pub as-many : length (rowsOf m) ≡ nodeCount ns
+  unfolding rowsOf
+  as-many = ap length (sym (rows-whole m ns (judge-fine m (length before) z .nodes .triples))) ∙ rows-count m ns (nodeCount ns) (omega arith)
+
+  room : rowBegin S (length (rowsOf m)) ≤ length before
+  room = rw as-many (judge-fine m (length before) z .space)
+
+  pub held-value : (k s : ℕ) → k < nodeCount ns → s < S → held S after k s ≡ verdictAt m k s
+  unfolding held verdictAt
+  held-value k s h l = ap (λ (v : List ℕ). held S v k s) e ∙ value-in-space S (rowsOf m) all-fine before room k s (rw as-many h) l
+
+  pub held-beyond : drop (rowBegin S (nodeCount ns)) after ≡ drop (rowBegin S (nodeCount ns)) before
+  held-beyond =
+      let n : length (storedRows (rowsOf m)) ≡ rowBegin S (nodeCount ns) = stored-length S (rowsOf m) all-fine ∙ ap (rowBegin S) as-many in
+      ap (drop (rowBegin S (nodeCount ns))) e ∙ drop-at (storedRows (rowsOf m)) (drop (length (storedRows (rowsOf m))) before) (rowBegin S (nodeCount ns)) n ∙ ap (λ (k : ℕ). drop k before) n
+
+  -- a node's row in the space: it is a row, and its values are those of its node
+  pub row-held : (k : ℕ) → k < nodeCount ns → (badRow S (rowIn S after k) ≡ false) × (rowValues S (rowIn S after k) ≡ getD (rowsOf m) k [])
+  unfolding operandRow
+  row-held k h =
+      let few : S ≤ mostStates = accepted S (m .transitions) (judge-fine m (length before) z .table) .few in
+      let fit = rows-fit S (rowsOf m) all-fine before room few in
+      let same = operand-in-space S (rowsOf m) all-fine before room k in
+      (subst (λ (v : List ℕ). badRow S (rowIn S v k) ≡ false) (sym e) (fit .stand k (rw as-many h)), subst (λ (v : List ℕ). rowValues S (rowIn S v k) ≡ getD (rowsOf m) k []) (sym e) (rw (lt-ltb k (length (rowsOf m)) (rw as-many h)) at same))
+
+  -- the numbers of a node stay below their bounds
+  node-bounds : (k : ℕ) → k < nodeCount ns → (leftAt ns k < bound (uses (kindOf (kindAt ns k)) .0) (m .atoms) k) × (rightAt ns k < bound (uses (kindOf (kindAt ns k)) .1) (m .atoms) k)
+  node-bounds k h =
+      let p = or-neither (not (ltb (leftAt ns k) (bound (uses (kindOf (kindAt ns k)) .0) (m .atoms) k))) (not (ltb (rightAt ns k) (bound (uses (kindOf (kindAt ns k)) .1) (m .atoms) k))) (judge-fine m (length before) z .operands k h) in
+      (ltb-true _ _ (not-false _ (p .0)), ltb-true _ _ (not-false _ (p .1)))
+
+  -- the numbers of a node of a known kind stay below the bounds of that kind
+  kind-bounds : (n k : ℕ) → k < nodeCount ns → kindAt ns k ≡ n → (leftAt ns k < bound (uses (kindOf n) .0) (m .atoms) k) × (rightAt ns k < bound (uses (kindOf n) .1) (m .atoms) k)
+  kind-bounds n k h e = subst (λ (x : ℕ). (leftAt ns k < bound (uses (kindOf x) .0) (m .atoms) k) × (rightAt ns k < bound (uses (kindOf x) .1) (m .atoms) k)) e (node-bounds k h)
+
+  -- what the space holds for a node is its value from the rows that it holds for its two numbers, where these are earlier nodes
+  node-held : (n k s : ℕ) → k < nodeCount ns → s < S → kindAt ns k ≡ n → leftAt ns k < k → rightAt ns k < k → held S after k s ≡ nodeValue m (kindOf n) (leftAt ns k) (rowValues S (rowIn S after (leftAt ns k))) (rowValues S (rowIn S after (rightAt ns k))) s
+  unfolding rowsOf nodeRow verdictAt
+  node-held n k s h l e a b =
+      let left = row-held (leftAt ns k) (omega arith) .1 in
+      let right = row-held (rightAt ns k) (omega arith) .1 in
+      held-value k s h l
+      ∙ ap (λ (r : List ℕ). at r s) (row-of-node m ns (judge-fine m (length before) z .nodes .triples) k h a b)
+      ∙ tab-at (nodeValue m (kindOf (kindAt ns k)) (leftAt ns k) (getD (rowsOf m) (leftAt ns k) []) (getD (rowsOf m) (rightAt ns k) [])) S s l
+      ∙ ap (λ (x : ℕ). nodeValue m (kindOf x) (leftAt ns k) (getD (rowsOf m) (leftAt ns k) []) (getD (rowsOf m) (rightAt ns k) []) s) e
+      ∙ ap₂ (λ (L R : List ℕ). nodeValue m (kindOf n) (leftAt ns k) L R s) (sym left) (sym right)
+
+  -- EX: the greatest value among the successors, of the row that it holds for the part
+  pub next-held : (k s : ℕ) → k < nodeCount ns → s < S → kindAt ns k ≡ 4 → (leftAt ns k < k) × (held S after k s ≡ next false (m .transitions) (rowValues S (rowIn S after (leftAt ns k))) s)
+  unfolding kindOf nodeValue
+  next-held k s h l four = let b = kind-bounds 4 k h four in (b .0, node-held 4 k s h l four (b .0) (omega arith))
+
+  -- E until: over the rows that it holds for the two parts
+  pub until-held : (k s : ℕ) → k < nodeCount ns → s < S → kindAt ns k ≡ 5 → (leftAt ns k < k) × (rightAt ns k < k) × (held S after k s ≡ until false (m .transitions) (rowValues S (rowIn S after (leftAt ns k))) (rowValues S (rowIn S after (rightAt ns k))) S s)
+  unfolding kindOf nodeValue
+  until-held k s h l five = let b = kind-bounds 5 k h five in (b .0, b .1, node-held 5 k s h l five (b .0) (b .1))

@@ -1,0 +1,4 @@
+pub mod KindLaws
+pub mod Lowest
+pub mod Fine
+pub mod Labels

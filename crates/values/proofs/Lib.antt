@@ -1,0 +1,4 @@
+pub mod Makers
+pub mod StoredRows
+pub mod OneAnswer
+pub mod Decimals
