@@ -1,12 +1,12 @@
 -- From what the private functions found to the promises of First, Next and Check.
-use mathlib.Core.Path.{_≡_, refl, sym, ap, _∙_, subst}
-use Prim.Native.Nat.{ℕ, _+_, _≤_, _<_}
-use mathlib.Core.List.{List, _∷_, _++_}
+use mathlib.Core.Path.{_≡_, refl, sym, ap, subst}
+use Prim.Native.Nat.{ℕ, _≤_, _<_}
+use mathlib.Core.List.{List, _∷_}
 use native.Mathlib.Omega.{arith}
-use lib.ListN.{length, drop, take, length-append, length-drop}
-use lib.Seq.{take-at, drop-at}
+use lib.ListN.{length, drop, length-drop}
 use Rattle.lists.specs.Entries.{at}
-use Rattle.lists.specs.Causes.{Given, Rising, refusalOf}
+use Rattle.lists.specs.Rows.{fill}
+use Rattle.lists.specs.Causes.{Applies, Lowest, Rising, refusalOf}
 use Rattle.lists.proofs.Causes.{given}
 use Rattle.kripke.specs.Walks.{Begins}
 use Rattle.paths.specs.declared.FirstAnswer.{FirstAnswer}
@@ -45,8 +45,8 @@ next-refused q path n e pos =
       says = record { numbered = pos; untouched = refl };
     }
 
-check-number : (q : Question) (n : ℕ) → n ≡ refusalOf (causes q) → Given (causes q) n
-check-number q n e = subst (Given (causes q)) (sym e) (given 0 (causes q) (causes-rise q))
+check-number : (q : Question) (n : ℕ) → n ≡ refusalOf (causes q) → Lowest (Applies (causes q)) n
+check-number q n e = subst (Lowest (Applies (causes q))) (sym e) (given 0 (causes q) (causes-rise q))
 
 pub check-refused : (q : Question) (path : List ℕ) (n : ℕ) → n ≡ refusalOf (causes q) → 0 < n → CheckPromise q path (check.Refused n)
 check-refused q path n e pos = record { number = check-number q n e; says = pos }
@@ -62,16 +62,11 @@ module _ (q : Question) (start : ℕ) (space : List ℕ) (fine : refusalOf (firs
   abbrev Late : ℕ → Type 0
   Late k = (k ≡ 16) × TooShort q start (length space)
 
-  pub first-path-promised : (after : List ℕ) (n : ℕ) (p : List ℕ) → Least (Shortest q start) p → length p ≡ n → n ≤ length space → after ≡ p ++ drop n space → FirstPromise q start space after (first.Path n)
+  pub first-path-promised : (after : List ℕ) (n : ℕ) (p : List ℕ) → Least (Shortest q start) p → length p ≡ n → n ≤ length space → after ≡ fill p space → FirstPromise q start space after (first.Path n)
   first-path-promised after n p l e h is =
       record {
         number = lowest-none (firstCauses q start) (first-causes-rise q start) Late fine (λ k t. omega (arith, t .1 .shortest .fewest p (l .is .begins) (l .is .witness), t .1 .longer));
-        says = record {
-          fits = h;
-          size = ap length is ∙ length-append p (drop n space) ∙ omega (arith, length-drop n space);
-          rest = ap (drop n) is ∙ drop-at p (drop n space) n e;
-          path = subst (Least (Shortest q start)) (sym (ap (take n) is ∙ take-at p (drop n space) n e)) l;
-        };
+        says = record { path = p; least = l; size = e; fits = h; space = is };
       }
 
   pub first-none-promised : ((p : List ℕ) → Begins start p → Witness q p → ⊥) → FirstPromise q start space space first.None

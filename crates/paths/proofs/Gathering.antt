@@ -8,7 +8,7 @@ use native.Mathlib.Omega.{arith}
 use native.Mathlib.Nat.{eq-or-lt-of-le}
 use lib.ListN.{length}
 use borrow.Author.Tests.{not-true}
-use Rattle.kripke.specs.Rows.{valueAt}
+use Rattle.values.specs.Rows.{valueAt}
 use Rattle.kripke.specs.Transitions.{Graph}
 use Rattle.kripke.specs.Walks.{Begins, Joined, walks}
 use Rattle.lists.specs.Entries.{anyBelow, isNil}

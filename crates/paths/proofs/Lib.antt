@@ -19,3 +19,4 @@ pub mod UntilLink
 pub mod Listing
 pub mod Gathering
 pub mod Running
+pub mod Meetable

@@ -1,11 +1,11 @@
 -- Any two answers that a call may give coincide, and so does what they leave in the path space.
-use mathlib.Core.Path.{_≡_, refl, sym, ap, ap₂, _∙_, subst}
+use mathlib.Core.Path.{_≡_, refl, sym, ap, _∙_}
 use Prim.Native.Nat.{ℕ}
-use mathlib.Core.List.{List, _++_}
+use mathlib.Core.List.{List}
 use native.Mathlib.Omega.{arith}
-use lib.ListN.{length, drop, take, take-append-drop}
-use lib.Seq.{length-take-le}
-use Rattle.lists.proofs.Causes.{given-one}
+use lib.ListN.{length}
+use Rattle.lists.specs.Rows.{fill}
+use Rattle.lists.proofs.Causes.{lowest-one}
 use Rattle.paths.specs.declared.FirstAnswer.{FirstAnswer}
 use Rattle.paths.specs.declared.FirstAnswer.the-variants as first
 use Rattle.paths.specs.declared.NextAnswer.{NextAnswer}
@@ -13,30 +13,22 @@ use Rattle.paths.specs.declared.NextAnswer.the-variants as next
 use Rattle.paths.specs.declared.CheckAnswer.{CheckAnswer}
 use Rattle.paths.specs.declared.CheckAnswer.the-variants as check
 use Rattle.paths.specs.Questions.{Question}
-use Rattle.paths.specs.Refusals.{causes}
 use Rattle.paths.specs.Answers.{CheckPromise, CheckSays, FirstPath, FirstPromise, FirstSays, NextPromise, NextSays, checkNumber, firstNumber, nextNumber}
 use Rattle.paths.proofs.Orders.{least-one}
-use Rattle.paths.proofs.Refusing.{lowest-one}
-
-same-parts : (n : ℕ) (a b : List ℕ) → take n a ≡ take n b → drop n a ≡ drop n b → a ≡ b
-same-parts n a b p q = sym (take-append-drop n a) ∙ ap₂ _++_ p q ∙ take-append-drop n b
 
 same-path : (q : Question) (start : ℕ) (space a b : List ℕ) (n m : ℕ) → FirstPath q start space a n → FirstPath q start space b m → (n ≡ m) × (a ≡ b)
 same-path q start space a b n m f g =
-    let e : take n a ≡ take m b = least-one (f .path) (g .path) in
-    let t = length-take-le n a (omega (arith, f .fits, f .size)) in
-    let u = length-take-le m b (omega (arith, g .fits, g .size)) in
-    let same : n ≡ m = sym t ∙ ap length e ∙ u in
-    (same, same-parts n a b (e ∙ ap (λ (k : ℕ). take k b) (sym same)) (f .rest ∙ sym (subst (λ (k : ℕ). drop k b ≡ drop k space) (sym same) (g .rest))))
+    let e : f .path ≡ g .path = least-one (f .least) (g .least) in
+    (sym (f .size) ∙ ap length e ∙ g .size, f .space ∙ ap (λ (p : List ℕ). fill p space) e ∙ sym (g .space))
 
 pub first-one : (q : Question) (start : ℕ) (space a b : List ℕ) (x y : FirstAnswer) → FirstPromise q start space a x → FirstPromise q start space b y → (x ≡ y) × (a ≡ b)
 first-one q start space a b x y f g = go x y (lowest-one (f .number) (g .number)) (f .says) (g .says)
   where
     go : (x y : FirstAnswer) → firstNumber x ≡ firstNumber y → FirstSays q start space a x → FirstSays q start space b y → (x ≡ y) × (a ≡ b)
     go (first.Path n) (first.Path m) e f g = let s = same-path q start space a b n m f g in (ap first.Path (s .0), s .1)
-    go (first.Path n) first.None e f g = absurd (g .none (take n a) (f .path .is .begins) (f .path .is .witness))
+    go (first.Path n) first.None e f g = absurd (g .none (f .path) (f .least .is .begins) (f .least .is .witness))
     go (first.Path n) (first.Refused m) e f g = absurd (omega (arith, g .numbered))
-    go first.None (first.Path m) e f g = absurd (f .none (take m b) (g .path .is .begins) (g .path .is .witness))
+    go first.None (first.Path m) e f g = absurd (f .none (g .path) (g .least .is .begins) (g .least .is .witness))
     go first.None first.None e f g = (refl, f .untouched ∙ sym (g .untouched))
     go first.None (first.Refused m) e f g = absurd (omega (arith, g .numbered))
     go (first.Refused n) (first.Path m) e f g = absurd (omega (arith, f .numbered))
@@ -58,7 +50,7 @@ next-one q path a b x y f g = go x y (lowest-one (f .number) (g .number)) (f .sa
     go (next.Refused n) (next.Refused m) e f g = (ap next.Refused e, f .untouched ∙ sym (g .untouched))
 
 pub check-one : (q : Question) (path : List ℕ) (x y : CheckAnswer) → CheckPromise q path x → CheckPromise q path y → x ≡ y
-check-one q path x y f g = go x y (given-one (causes q) (checkNumber x) (checkNumber y) (f .number) (g .number)) (f .says) (g .says)
+check-one q path x y f g = go x y (lowest-one (f .number) (g .number)) (f .says) (g .says)
   where
     go : (x y : CheckAnswer) → checkNumber x ≡ checkNumber y → CheckSays q path x → CheckSays q path y → x ≡ y
     go check.Yes check.Yes e f g = refl

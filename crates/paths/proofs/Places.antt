@@ -1,4 +1,4 @@
--- A list from a place on, and a witness from a place on.
+-- A list from a place on, a witness from a place on, and the rows that a witness is told from.
 use mathlib.Core.Path.{_≡_}
 use Prim.Native.Nat.{ℕ, zero, suc, _+_, _≤_, _<_}
 use mathlib.Core.List.{List, [], _∷_}
@@ -7,8 +7,9 @@ use native.Mathlib.Numerals.{add-one}
 use lib.ListN.{length, drop, drop-of-length-le}
 use lib.Seq.{drop-cons}
 use Rattle.lists.specs.Entries.{at}
+use Rattle.values.specs.Rows.{valueAt}
 use Rattle.kripke.specs.Transitions.{Edge}
-use Rattle.paths.specs.Questions.{From}
+use Rattle.paths.specs.Questions.{From, Reaches}
 
 pub at-drop : (p : List ℕ) (i : ℕ) → i < length p → drop i p ≡ at p i ∷ drop (i + 1) p
 at-drop p i h = rw (add-one, drop-cons p i 0)
@@ -35,6 +36,14 @@ module _ (es : List ℕ) (L R : ℕ → Type 0) where
   pub from-place : (p : List ℕ) (i : ℕ) → i < length p → From es L R (at p 0) (drop 1 p) → From es L R (at p i) (drop (i + 1) p)
   from-place p zero h f = f
   from-place p (suc i) h f = rw (← add-one i) (from-step p i (omega arith) (from-place p i (omega arith) f) .2)
+
+-- values that agree with a stored row reach the level where it does
+module _ (S level : ℕ) (stored values : List ℕ) (here : (s : ℕ) → s < S → at values s ≡ valueAt stored s) where
+  pub row-reaches : (s : ℕ) → Reaches S level (at values) s → Reaches S level (valueAt stored) s
+  row-reaches s h = (h .0, omega (arith, here s (h .0), h .1))
+
+  pub reaches-row : (s : ℕ) → Reaches S level (valueAt stored) s → Reaches S level (at values) s
+  reaches-row s h = (h .0, omega (arith, here s (h .0), h .1))
 
 -- predicates that follow from others
 pub from-map : (es : List ℕ) (L R L′ R′ : ℕ → Type 0) → ((s : ℕ) → L s → L′ s) → ((s : ℕ) → R s → R′ s) → (s : ℕ) (p : List ℕ) → From es L R s p → From es L′ R′ s p

@@ -23,9 +23,9 @@ use Rattle.paths.specs.Answers.{CheckPromise, FirstPromise, NextPromise}
 use Rattle.paths.specs.Inside.{Far, FaultFound, FirstWorked, Measured, NextWorked, TablesRead, Taken}
 use Rattle.paths.proofs.Answering.{check-no, check-refused, check-yes, first-found, first-refused, next-found, next-refused, next-wrong}
 use Rattle.paths.proofs.Breaks.{faultless, no-fault}
-use Rattle.paths.proofs.Places.{from-map, whole}
+use Rattle.paths.proofs.Places.{from-map, reaches-row, row-reaches, whole}
 use Rattle.paths.proofs.Refusing.{before-15, given-15, not-15}
-use Rattle.paths.proofs.Shortests.{far-map, reaches-row, row-reaches}
+use Rattle.paths.proofs.Shortests.{far-map}
 
 module _ (S : ℕ) (es left right : List ℕ) (level : ℕ) (t : Tables) (r : TablesRead S es left right t) where
   abbrev q : Question
@@ -62,17 +62,17 @@ module _ (S : ℕ) (es left right : List ℕ) (level : ℕ) (t : Tables) (r : Ta
     -- the values that were read say what the stored rows say
     far-stored : (start : ℕ) (d : List ℕ) → Measured S es (t .left) (t .right) level start d → Far es (LeftHolds q) (RightHolds q) S start d
     far-stored start d m =
-        far-map es _ _ (LeftHolds q) (RightHolds q) S start d (row-reaches S level left (t .left) (taken .left-row)) (row-reaches S level right (t .right) (taken .right-row)) (reaches-row S level left (t .left) (taken .left-row))
-        (reaches-row S level right (t .right) (taken .right-row)) m
+        far-map es _ _ (LeftHolds q) (RightHolds q) S start d (row-reaches S level left (t .left) (taken .left-row .here)) (row-reaches S level right (t .right) (taken .right-row .here)) (reaches-row S level left (t .left) (taken .left-row .here))
+        (reaches-row S level right (t .right) (taken .right-row .here)) m
 
     unbroken : (p : List ℕ) → FaultFound S es (at (t .left)) (at (t .right)) level p Nowhere → Witness q p
     unbroken p f =
         let w = faultless S es (at (t .left)) (at (t .right)) level p (f .0) (f .1) in
-        subst (Witness q) (sym (whole p (f .0))) (from-map es _ _ (LeftHolds q) (RightHolds q) (row-reaches S level left (t .left) (taken .left-row)) (row-reaches S level right (t .right) (taken .right-row)) (at p 0) (drop 1 p) w)
+        subst (Witness q) (sym (whole p (f .0))) (from-map es _ _ (LeftHolds q) (RightHolds q) (row-reaches S level left (t .left) (taken .left-row .here)) (row-reaches S level right (t .right) (taken .right-row .here)) (at p 0) (drop 1 p) w)
 
     witness-values : (p : List ℕ) → Witness q p → From es (Reaches S level (at (t .left))) (Reaches S level (at (t .right))) (at p 0) (drop 1 p)
     witness-values [] w = absurd w
-    witness-values (x ∷ p) w = from-map es (LeftHolds q) (RightHolds q) _ _ (reaches-row S level left (t .left) (taken .left-row)) (reaches-row S level right (t .right) (taken .right-row)) x p w
+    witness-values (x ∷ p) w = from-map es (LeftHolds q) (RightHolds q) _ _ (reaches-row S level left (t .left) (taken .left-row .here)) (reaches-row S level right (t .right) (taken .right-row .here)) x p w
 
     broken : (p : List ℕ) (i : ℕ) → FaultFound S es (at (t .left)) (at (t .right)) level p (At i) → Witness q p → ⊥
     broken [] i f w = w

@@ -1,7 +1,7 @@
 -- S entries are enough: a witness exists exactly if one of at most S entries does, a shortest one has at most S, and with S entries of space 16 is never given.
 use Prim.Native.Nat.{ℕ, _≤_}
 use mathlib.Core.List.{List, [], _∷_}
-use mathlib.Core.Logic.{_⊎_, ⊎-elim, _↔_}
+use mathlib.Core.Logic.{⊎-elim, _↔_}
 use native.Mathlib.Omega.{arith}
 use lib.ListN.{length}
 use Rattle.kripke.specs.Walks.{Begins}

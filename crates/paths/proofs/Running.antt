@@ -1,20 +1,19 @@
 -- The run: for a question that is taken and a space with room exactly one whole run exists, every chain is a beginning of it, it holds every shortest witness and no other list, each once, ascending; after "end" comes "end".
 use mathlib.Core.Path.{_≡_, refl, sym, ap₂, _∙_, subst}
-use Prim.Native.Nat.{ℕ, _<_}
+use Prim.Native.Nat.{ℕ}
 use mathlib.Core.List.{List, [], _∷_, _++_}
 use mathlib.Core.Bool.{true, _||_}
 use mathlib.Core.Logic.{_⊎_, inl, inr, ⊎-elim, _↔_}
 use native.Mathlib.Omega.{arith}
-use native.Mathlib.Nat.{eq-zero-or-pos}
 use lib.ListN.{length, drop, take}
 use lib.Seq.{take-at}
 use lib.Dec.{leb}
 use Rattle.lists.specs.Entries.{at}
-use Rattle.lists.specs.Causes.{Applies, Cause, Given, Rising, cause, refusalOf}
-use Rattle.lists.proofs.Causes.{given}
+use Rattle.lists.specs.Rows.{fill}
+use Rattle.lists.specs.Causes.{Applies, Cause, Rising, cause, refusalOf}
 use Rattle.lists.proofs.Tests.{or-left}
 use Rattle.kripke.specs.Refusals.{tableCauses, tableRefusal}
-use Rattle.kripke.specs.Rows.{badRow}
+use Rattle.values.specs.Rows.{badRow}
 use Rattle.kripke.specs.Transitions.{Graph}
 use Rattle.kripke.proofs.Refusals.{accepted, table-rises}
 use Rattle.paths.specs.declared.FirstAnswer.the-variants as first
@@ -22,21 +21,18 @@ use Rattle.paths.specs.declared.NextAnswer.{NextAnswer}
 use Rattle.paths.specs.declared.NextAnswer.the-variants as next
 use Rattle.paths.specs.Questions.{Question, Shortest}
 use Rattle.paths.specs.Order.{Among, Ascending, Beyond, Least, Smaller}
-use Rattle.paths.specs.Refusals.{TooShort, badLevel, causes, firstCauses, tablesCauses}
-use Rattle.paths.specs.Answers.{FirstPromise, NextPromise}
+use Rattle.paths.specs.Refusals.{badLevel, causes, firstCauses, tablesCauses}
+use Rattle.paths.specs.Answers.{NextPromise}
 use Rattle.paths.specs.Runs.{Chain, Ends, Goes, Opens, OpensNone, Roomy, Run}
 use Rattle.paths.proofs.Answering.{causes-rise, first-causes-rise, first-none-promised, first-path-promised, next-end-promised, next-path-promised}
 use Rattle.paths.proofs.Gathering.{Everyone, everyone, shortestUpto}
 use Rattle.paths.proofs.OneAnswer.{first-one, next-one}
 use Rattle.paths.proofs.Orders.{smaller-irrefl, smaller-trans}
-use Rattle.paths.proofs.Refusing.{only-late}
+use Rattle.paths.proofs.Refusing.{applies-none, none-applies}
 
 -- where a longer table of causes gives no number, neither does one whose causes are among its own
 fewer-causes : (cs ds : List Cause) → Rising 0 cs → Rising 0 ds → ((n : ℕ) → Applies cs n → Applies ds n) → refusalOf ds ≡ 0 → refusalOf cs ≡ 0
-fewer-causes cs ds a b more z =
-    let g : Given cs (refusalOf cs) = given 0 cs a in
-    let h : Given ds 0 = subst (Given ds) z (given 0 ds b) in
-    ⊎-elim (λ (e : refusalOf cs ≡ 0). e) (λ (p : 0 < refusalOf cs). absurd (omega (arith, h .lowest (refusalOf cs) (more (refusalOf cs) (g .applies (λ e. omega arith))) .0))) (eq-zero-or-pos (refusalOf cs))
+fewer-causes cs ds a b more z = applies-none cs a (λ n x. none-applies ds b z n (more n x))
 
 applies-left : (cs ds : List Cause) (n : ℕ) → Applies cs n → Applies (cs ++ ds) n
 applies-left [] ds n a = absurd a
@@ -85,9 +81,9 @@ run-of q start space roomy e (p ∷ ps) z =
     let up : Ascending (p ∷ ps) = subst Ascending z (e .ascending) in
     let h : Shortest q start p = only p (inl refl) in (
       record {
-        after = p ++ drop (length p) space;
+        after = fill p space;
         size = length p;
-        answered = first-path-promised q start space (roomy .taken) (p ++ drop (length p) space) (length p) p (record { is = h; least = λ r k. ⊎-elim inl (λ m. inr (up .0 r m)) (every r k) }) refl (roomy .room p h) refl;
+        answered = first-path-promised q start space (roomy .taken) (fill p space) (length p) p (record { is = h; least = λ r k. ⊎-elim inl (λ m. inr (up .0 r m)) (every r k) }) refl (roomy .room p h) refl;
         handed = sym (take-at p (drop (length p) space) (length p) refl);
       },
       ends-of q start (next-taken q start (roomy .taken)) p ps up h (λ r m. only r (inr m)) (λ r k l. ⊎-elim (λ x. absurd (smaller-irrefl r (subst (λ (y : List ℕ). Smaller y r) x l))) (λ m. m) (every r k)),
@@ -162,17 +158,6 @@ end-again q p after again a x y =
     let same : after ≡ p = x .says .untouched in
     let x′ : NextPromise q after after next.End = subst (λ (z : List ℕ). NextPromise q z after next.End) (sym same) x in
     next-one q after again after a next.End y x′
-
--- on the way nothing is refused: neither by First nor by Next, lent a list of the run
-pub first-not-refused : (q : Question) (start : ℕ) (space after : List ℕ) (n : ℕ) → Roomy q start space → FirstPromise q start space after (first.Refused n) → ⊥
-first-not-refused q start space after n roomy f =
-    let late = only-late (firstCauses q start) (first-causes-rise q start) (λ (k : ℕ). (k ≡ 16) × TooShort q start (length space)) n (roomy .taken) (f .says .numbered) (f .number) .1 in
-    omega (arith, roomy .room (late .path) (late .shortest), late .longer)
-
-pub next-not-refused : (q : Question) (start : ℕ) (space : List ℕ) (ps : List (List ℕ)) (p after : List ℕ) (n : ℕ) → Roomy q start space → Run q start space ps → Among p ps → NextPromise q p after (next.Refused n) → ⊥
-next-not-refused q start space ps p after n roomy r m f =
-    let h : Shortest q start p = run-holds q start space roomy ps r .0 p .0 m in
-    only-late (causes q) (causes-rise q) (λ (k : ℕ). (k ≡ 17) × (Shortest q (at p 0) p → ⊥)) n (next-taken q start (roomy .taken)) (f .says .numbered) (f .number) .1 (subst (λ (x : ℕ). Shortest q x p) (first-entry q start p h) h)
 
 -- the run, computed: of the walks of the least length that has a witness, those that are one
 pub computed-run : (q : Question) (start : ℕ) (space : List ℕ) → Roomy q start space → Run q start space (shortestUpto q start (q .states))

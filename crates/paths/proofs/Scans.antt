@@ -14,7 +14,8 @@ use Rattle.lists.proofs.Entries.{all-at}
 use Rattle.lists.proofs.Tests.{and-both, and-fails, or-fails, or-left, or-neither}
 use Rattle.kripke.specs.Transitions.{Edge, count, ends, succs, to}
 use Rattle.kripke.proofs.Successors.{edge-succ, succ-edge}
-use Rattle.paths.specs.Inside.{Ready, firstFit, has}
+use Rattle.kripke.specs.Inside.{Ready}
+use Rattle.paths.specs.Inside.{firstFit, has}
 
 -- one transition more, and none left
 module _ (es : List ℕ) (k e : ℕ) where

@@ -8,9 +8,7 @@ use lib.ListN.{length, drop}
 use Rattle.lists.specs.Entries.{at}
 use Rattle.lists.proofs.Numbers.{lt-or-le}
 use Rattle.kripke.specs.Walks.{Begins}
-use Rattle.kripke.specs.Rows.{valueAt}
-use Rattle.kripke.proofs.StoredRows.{RowTaken}
-use Rattle.paths.specs.Questions.{From, LeftHolds, Question, Reaches, RightHolds, Shortest, Witness}
+use Rattle.paths.specs.Questions.{From, LeftHolds, Question, RightHolds, Shortest, Witness}
 use Rattle.paths.specs.Order.{Beyond, Least, Smaller}
 use Rattle.paths.specs.Inside.{Down, Far, Greatest, Greedy, Onto}
 use Rattle.paths.proofs.Advancing.{down-length}
@@ -31,13 +29,6 @@ far-map es L R L′ R′ S start d l r l′ r′ far =
       };
       enough = far .enough;
     }
-
--- a row as it was read reaches the level where the stored one does
-pub row-reaches : (S level : ℕ) (stored values : List ℕ) → RowTaken S stored values → (s : ℕ) → Reaches S level (at values) s → Reaches S level (valueAt stored) s
-row-reaches S level stored values t s h = (h .0, omega (arith, t .here s (h .0), h .1))
-
-pub reaches-row : (S level : ℕ) (stored values : List ℕ) → RowTaken S stored values → (s : ℕ) → Reaches S level (valueAt stored) s → Reaches S level (at values) s
-reaches-row S level stored values t s h = (h .0, omega (arith, t .here s (h .0), h .1))
 
 module _ (q : Question) (start : ℕ) (d : List ℕ) (far : Far (q .transitions) (LeftHolds q) (RightHolds q) (q .states) start d) where
   abbrev es : List ℕ

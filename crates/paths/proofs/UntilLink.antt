@@ -3,7 +3,7 @@ use mathlib.Core.Path.{_≡_, refl, ap, _∙_, subst}
 use Prim.Native.Nat.{ℕ, zero, suc, _≤_, _<_, min, max}
 use mathlib.Core.List.{List, [], _∷_, map}
 use mathlib.Core.Bool.{false}
-use mathlib.Core.Logic.{_⊎_, ⊎-elim, _↔_}
+use mathlib.Core.Logic.{⊎-elim, _↔_}
 use native.Mathlib.Numerals.{add-one}
 use native.Mathlib.Omega.{arith}
 use native.Mathlib.Nat.{le-of-eq, le-trans}
@@ -13,7 +13,7 @@ use Rattle.lists.specs.Entries.{at}
 use Rattle.lists.proofs.Choosing.{best-bounds}
 use Rattle.lists.proofs.Numbers.{reach-max}
 use Rattle.lists.proofs.Rows.{tab-at}
-use Rattle.kripke.specs.Rows.{rowValues, valueAt}
+use Rattle.values.specs.Rows.{rowValues, valueAt}
 use Rattle.kripke.specs.Transitions.{Graph, succs}
 use Rattle.kripke.specs.Until.{step, until}
 use Rattle.kripke.specs.Walks.{Begins}
@@ -22,7 +22,7 @@ use Rattle.kripke.proofs.Rest.{enough, never-above}
 use Rattle.kripke.proofs.Steps.{until-one, until-step}
 use Rattle.kripke.proofs.Successors.{edge-state, edge-succ}
 use Rattle.paths.specs.Questions.{From, LeftHolds, Question, Reaches, RightHolds, Witness, Witnessed}
-use Rattle.paths.proofs.Places.{from-map}
+use Rattle.paths.proofs.Places.{from-map, reaches-row, row-reaches}
 
 module _ (S : ℕ) (es : List ℕ) (G : Graph S es) (L R : List ℕ) (w : ℕ) where
   abbrev Fr : ℕ → List ℕ → Type 0
@@ -30,10 +30,6 @@ module _ (S : ℕ) (es : List ℕ) (G : Graph S es) (L R : List ℕ) (w : ℕ) w
 
   abbrev E : ℕ → ℕ → ℕ
   E n s = until false es L R n s
-
-  first-in : (s : ℕ) (p : List ℕ) → Fr s p → s < S
-  first-in s [] f = f .0
-  first-in s (t ∷ p) f = f .0 .0
 
   from-until : (s : ℕ) (p : List ℕ) → Fr s p → w ≤ E (suc (length p)) s
   from-until s [] f = rw (until-one false es L R s) (f .1)
@@ -61,23 +57,26 @@ module _ (S : ℕ) (es : List ℕ) (G : Graph S es) (L R : List ℕ) (w : ℕ) w
       more : E S s ≡ E (suc S) s
       more = enough false S es G L R 1 s h ∙ ap (λ (k : ℕ). until false es L R k s) (add-one S)
 
--- the values of a stored row reach the level where the row does
 values-at : (S : ℕ) (stored : List ℕ) (s : ℕ) → s < S → at (rowValues S stored) s ≡ valueAt stored s
 unfolding rowValues
 values-at S stored s h = tab-at (valueAt stored) S s h
 
+-- a witness over the rows' values is one over the stored rows, and back
+module _ (q : Question) where
+  abbrev values : List ℕ → List ℕ
+  values row = rowValues (q .states) row
+
+  abbrev Valued : ℕ → List ℕ → Type 0
+  Valued = From (q .transitions) (Reaches (q .states) (q .level) (at (values (q .left)))) (Reaches (q .states) (q .level) (at (values (q .right))))
+
+  stored : (s : ℕ) (p : List ℕ) → Valued s p → From (q .transitions) (LeftHolds q) (RightHolds q) s p
+  stored = from-map (q .transitions) _ _ (LeftHolds q) (RightHolds q) (row-reaches (q .states) (q .level) (q .left) (values (q .left)) (values-at (q .states) (q .left))) (row-reaches (q .states) (q .level) (q .right) (values (q .right)) (values-at (q .states) (q .right)))
+
+  valued : (s : ℕ) (p : List ℕ) → Begins s p → Witness q p → (r : List ℕ) × Valued s r
+  valued s [] b w = absurd b
+  valued s (x ∷ r) b w = (r, from-map (q .transitions) (LeftHolds q) (RightHolds q) _ _ (reaches-row (q .states) (q .level) (q .left) (values (q .left)) (values-at (q .states) (q .left))) (reaches-row (q .states) (q .level) (q .right) (values (q .right)) (values-at (q .states) (q .right))) s r (rw b at w))
+
 pub until-link : (q : Question) (s : ℕ) → Graph (q .states) (q .transitions) → s < q .states → Witnessed q s ↔ (q .level ≤ until false (q .transitions) (rowValues (q .states) (q .left)) (rowValues (q .states) (q .right)) (q .states) s)
-until-link q s G h = (λ x. link .0 (out (x .0) (x .1) (x .2)), λ v. let x = link .1 v in (s ∷ x .0, refl, from-map (q .transitions) _ _ (LeftHolds q) (RightHolds q) (back (q .left)) (back (q .right)) s (x .0) (x .1)))
-  where
-    link : ((p : List ℕ) × From (q .transitions) (Reaches (q .states) (q .level) (at (rowValues (q .states) (q .left)))) (Reaches (q .states) (q .level) (at (rowValues (q .states) (q .right)))) s p) ↔ (q .level ≤ until false (q .transitions) (rowValues (q .states) (q .left)) (rowValues (q .states) (q .right)) (q .states) s)
-    link = both (q .states) (q .transitions) G (rowValues (q .states) (q .left)) (rowValues (q .states) (q .right)) (q .level) s h
-
-    back : (row : List ℕ) (s : ℕ) → Reaches (q .states) (q .level) (at (rowValues (q .states) row)) s → Reaches (q .states) (q .level) (valueAt row) s
-    back row s r = (r .0, omega (arith, r .1, values-at (q .states) row s (r .0)))
-
-    there : (row : List ℕ) (s : ℕ) → Reaches (q .states) (q .level) (valueAt row) s → Reaches (q .states) (q .level) (at (rowValues (q .states) row)) s
-    there row s r = (r .0, omega (arith, r .1, values-at (q .states) row s (r .0)))
-
-    out : (p : List ℕ) → Begins s p → Witness q p → (r : List ℕ) × From (q .transitions) (Reaches (q .states) (q .level) (at (rowValues (q .states) (q .left)))) (Reaches (q .states) (q .level) (at (rowValues (q .states) (q .right)))) s r
-    out [] b w = absurd b
-    out (x ∷ r) b w = (r, from-map (q .transitions) (LeftHolds q) (RightHolds q) _ _ (there (q .left)) (there (q .right)) s r (rw b at w))
+until-link q s G h =
+    let link = both (q .states) (q .transitions) G (values q (q .left)) (values q (q .right)) (q .level) s h in
+    (λ x. link .0 (valued q s (x .0) (x .1) (x .2)), λ v. let x = link .1 v in (s ∷ x .0, refl, stored q s (x .0) (x .1)))

@@ -2,9 +2,10 @@
 use mathlib.Core.Path.{_≡_}
 use Prim.Native.Nat.{ℕ, _<_, _≤_}
 use mathlib.Core.List.{List}
-use lib.ListN.{length, take, drop}
+use lib.ListN.{length}
 use Rattle.lists.specs.Entries.{at}
-use Rattle.lists.specs.Causes.{Given}
+use Rattle.lists.specs.Rows.{fill}
+use Rattle.lists.specs.Causes.{Applies, Lowest}
 use Rattle.kripke.specs.Walks.{Begins}
 use Rattle.paths.specs.declared.FirstAnswer.{FirstAnswer}
 use Rattle.paths.specs.declared.FirstAnswer.the-variants as first
@@ -14,7 +15,7 @@ use Rattle.paths.specs.declared.CheckAnswer.{CheckAnswer}
 use Rattle.paths.specs.declared.CheckAnswer.the-variants as check
 use Rattle.paths.specs.Questions.{Question, Witness, Shortest}
 use Rattle.paths.specs.Order.{Least, Beyond}
-use Rattle.paths.specs.Refusals.{causes, FirstApplies, NextApplies, Lowest}
+use Rattle.paths.specs.Refusals.{causes, FirstApplies, NextApplies}
 
 -- the number of each answer: a refusal's own, and 0 for any other
 abbrev pub firstNumber : FirstAnswer → ℕ
@@ -32,12 +33,13 @@ checkNumber check.Yes = 0
 checkNumber check.No = 0
 checkNumber (check.Refused n) = n
 
--- the smallest shortest witness from the start stands in the first n entries of the path space, the rest of which stays
+-- the smallest shortest witness from the start has n entries and fills the front of the path space, the rest of which stays
 pub record FirstPath (q : Question) (start : ℕ) (before after : List ℕ) (n : ℕ) : Type 0 where
+  pub path : List ℕ
+  pub least : Least (Shortest q start) path
+  pub size : length path ≡ n
   pub fits : n ≤ length before
-  pub size : length after ≡ length before
-  pub rest : drop n after ≡ drop n before
-  pub path : Least (Shortest q start) (take n after)
+  pub space : after ≡ fill path before
 
 -- there is no witness from the start, and the path space is untouched
 pub record NoPath (q : Question) (start : ℕ) (before after : List ℕ) : Type 0 where
@@ -88,5 +90,5 @@ pub record NextPromise (q : Question) (before after : List ℕ) (answer : NextAn
 
 -- `check`: the lowest number that applies, and otherwise yes exactly if the list is a witness
 pub record CheckPromise (q : Question) (path : List ℕ) (answer : CheckAnswer) : Type 0 where
-  pub number : Given (causes q) (checkNumber answer)
+  pub number : Lowest (Applies (causes q)) (checkNumber answer)
   pub says : CheckSays q path answer

@@ -1,16 +1,17 @@
 -- What the private functions promise to each other.
 use mathlib.Core.Path.{_≡_}
 use Prim.Native.Nat.{ℕ, _+_, _-_, _<_, _≤_}
-use mathlib.Core.List.{List, [], _∷_, _++_}
+use mathlib.Core.List.{List, [], _∷_}
 use mathlib.Core.Bool.{Bool, true, false, cond, not, _&&_, _||_}
 use mathlib.Core.Logic.{_⊎_}
 use lib.ListN.{length, drop, set}
 use lib.Dec.{eqb, ltb, leb}
 use Rattle.lists.specs.Entries.{at, anyBelow}
+use Rattle.lists.specs.Rows.{fill}
 use Rattle.lists.specs.Causes.{refusalOf}
-use Rattle.kripke.specs.Transitions.{Edge, Begun, succs}
-use Rattle.kripke.proofs.Refusals.{Accepted}
-use Rattle.kripke.proofs.StoredRows.{RowTaken}
+use Rattle.kripke.specs.Transitions.{Edge, succs}
+use Rattle.kripke.specs.Inside.{Ready}
+use Rattle.values.specs.Inside.{RowTaken}
 use Rattle.paths.specs.declared.FirstAnswer.{FirstAnswer}
 use Rattle.paths.specs.declared.FirstAnswer.the-variants as first
 use Rattle.paths.specs.declared.NextAnswer.{NextAnswer}
@@ -20,11 +21,6 @@ use Rattle.paths.specs.declared.faults.Fault.{Fault}
 use Rattle.paths.specs.declared.faults.Fault.the-variants.{At, Nowhere}
 use Rattle.paths.specs.Questions.{Reaches, From}
 use Rattle.paths.specs.Refusals.{tablesCauses}
-
--- a graph, and where each state's transitions begin
-pub record Ready (S : ℕ) (es begins : List ℕ) : Type 0 where
-  pub accepted : Accepted S es
-  pub begun : Begun S es begins
 
 -- what is read of tables that are not refused
 pub record Taken (S : ℕ) (es left right : List ℕ) (t : Tables) : Type 0 where
@@ -138,7 +134,7 @@ pub record Advanced (es : List ℕ) (d : ℕ → ℕ) (before after : List ℕ) 
 
 -- `first_path`
 abbrev pub FirstFound : List ℕ → (ℕ → ℕ) → ℕ → List ℕ → List ℕ → FirstAnswer → Type 0
-FirstFound es d start before after (first.Path n) = (d start ≡ n) × (n ≤ length before) × ((p : List ℕ) × (length p ≡ n) × (after ≡ p ++ drop n before) × Descended es d start p)
+FirstFound es d start before after (first.Path n) = (d start ≡ n) × (n ≤ length before) × ((p : List ℕ) × (length p ≡ n) × (after ≡ fill p before) × Descended es d start p)
 FirstFound es d start before after first.None = (d start ≡ 0) × (after ≡ before)
 FirstFound es d start before after (first.Refused n) = (n ≡ 16) × (0 < d start) × (length before < d start) × (after ≡ before)
 

@@ -4,7 +4,7 @@ use mathlib.Core.List.{List, [], _∷_}
 use lib.ListN.{length}
 use Rattle.kripke.specs.Transitions.{Edge}
 use Rattle.kripke.specs.Walks.{Begins}
-use Rattle.kripke.specs.Rows.{valueAt}
+use Rattle.values.specs.Rows.{valueAt}
 
 -- the number of states, the transitions, a left row and a right row as they are stored, and a level
 pub record Question : Type 0 where

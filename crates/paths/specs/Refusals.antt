@@ -1,6 +1,6 @@
 -- When a question is refused: 1, 6 to 9, 14, 15, then 16 for First and 17 for Next.
 use mathlib.Core.Path.{_≡_}
-use Prim.Native.Nat.{ℕ, _<_, _≤_}
+use Prim.Native.Nat.{ℕ, _<_}
 use mathlib.Core.List.{List, [], _∷_, _++_}
 use mathlib.Core.Bool.{Bool, not, _||_}
 use mathlib.Core.Logic.{_⊎_}
@@ -8,7 +8,7 @@ use lib.ListN.{length}
 use lib.Dec.{eqb, leb}
 use Rattle.lists.specs.Entries.{at}
 use Rattle.lists.specs.Causes.{Cause, cause, Applies}
-use Rattle.kripke.specs.Rows.{badRow}
+use Rattle.values.specs.Rows.{badRow}
 use Rattle.kripke.specs.Refusals.{tableCauses}
 use Rattle.paths.specs.Questions.{Question, Shortest}
 
@@ -40,8 +40,3 @@ FirstApplies q start room n = Applies (firstCauses q start) n ⊎ ((n ≡ 16) ×
 -- the numbers that apply to Next's question and list: 17 if the list is no shortest witness from its first entry
 abbrev pub NextApplies : Question → List ℕ → ℕ → Type 0
 NextApplies q path n = Applies (causes q) n ⊎ ((n ≡ 17) × (Shortest q (at path 0) path → ⊥))
-
--- n is the lowest number that applies, or 0 where none does
-pub record Lowest (Applying : ℕ → Type 0) (n : ℕ) : Type 0 where
-  pub applies : (n ≡ 0 → ⊥) → Applying n
-  pub lowest : (m : ℕ) → Applying m → (0 < n) × (n ≤ m)

@@ -42,7 +42,11 @@ abbrev pub Run : Question → ℕ → List ℕ → List (List ℕ) → Type 0
 Run q start space [] = OpensNone q start space
 Run q start space (p ∷ ps) = Opens q start space p × Ends q p ps
 
--- the question is not refused with 1, 6 to 9, 14 or 15, and the space has room for a shortest witness, if there is one
+-- the space has room for a shortest witness, if there is one
+abbrev pub RoomFor : Question → ℕ → List ℕ → Type 0
+RoomFor q start space = (p : List ℕ) → Shortest q start p → length p ≤ length space
+
+-- the question is not refused with 1, 6 to 9, 14 or 15, and the space has room
 pub record Roomy (q : Question) (start : ℕ) (space : List ℕ) : Type 0 where
   pub taken : refusalOf (firstCauses q start) ≡ 0
-  pub room : (p : List ℕ) → Shortest q start p → length p ≤ length space
+  pub room : RoomFor q start space

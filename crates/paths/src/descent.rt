@@ -6,7 +6,8 @@ ghost use Prim.Native.Nat.{_<_, _≤_};
 ghost use lib.ListN.{length, drop};
 ghost use Rattle.lists.specs.Entries.{at};
 ghost use Rattle.kripke.specs.Transitions.{succs};
-ghost use Rattle.paths.specs.Inside.{Ready, firstFit, Layers, Down, Descended, Advanced, FirstFound, NextFound};
+ghost use Rattle.kripke.specs.Inside.{Ready};
+ghost use Rattle.paths.specs.Inside.{firstFit, Layers, Down, Descended, Advanced, FirstFound, NextFound};
 
 // The smallest successor of s with the distance that is wanted and not below `above`, or the state count for none.
 pub(crate) fn pick(

@@ -4,7 +4,8 @@ ghost use Prim.Native.Nat.{_+_, _-_, _<_, _≤_};
 ghost use lib.ListN.{length};
 ghost use Rattle.lists.specs.Entries.{at};
 ghost use Rattle.kripke.specs.Transitions.{succs};
-ghost use Rattle.paths.specs.Inside.{Ready, has, unjoined, atFault, FaultFound};
+ghost use Rattle.kripke.specs.Inside.{Ready};
+ghost use Rattle.paths.specs.Inside.{has, unjoined, atFault, FaultFound};
 
 pub(crate) enum Fault {
     At(usize),

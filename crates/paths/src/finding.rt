@@ -6,10 +6,11 @@ use crate::descent::next_path;
 use crate::faults::Fault;
 use crate::faults::first_fault;
 use crate::measure::measure;
-use kripke::limits::MOST_STATES;
+use values::limits::MOST_STATES;
 ghost use Prim.Native.Nat.{_<_, _≤_};
 ghost use lib.ListN.{length};
-ghost use Rattle.paths.specs.Inside.{Ready, FirstWorked, NextWorked};
+ghost use Rattle.kripke.specs.Inside.{Ready};
+ghost use Rattle.paths.specs.Inside.{FirstWorked, NextWorked};
 
 // The smallest list from the start, by the distances.
 pub(crate) fn first_from<'a>(

@@ -5,7 +5,8 @@ ghost use Prim.Native.Nat.{_+_, _<_, _≤_};
 ghost use lib.ListN.{length};
 ghost use Rattle.lists.specs.Entries.{at};
 ghost use Rattle.lists.specs.Rows.{Filled};
-ghost use Rattle.paths.specs.Inside.{Ready, atOnce, Settled, Rounded, Measured};
+ghost use Rattle.kripke.specs.Inside.{Ready};
+ghost use Rattle.paths.specs.Inside.{atOnce, Settled, Rounded, Measured};
 
 // 1 for a state whose right value is at least the level, 0 for any other number.
 fn at_once(states: usize, right: &[u8], level: u8, s: usize) -> u16

@@ -1,5 +1,5 @@
 // The tables of a question: the refusals 1, 6 to 9 and 14, what is read of the tables, and the tests of 15.
-use kripke::limits::MOST_STATES;
+use values::limits::MOST_STATES;
 ghost use mathlib.Core.Path.{_≡_};
 ghost use mathlib.Core.Bool.{cond, _&&_};
 ghost use lib.Dec.{eqb, leb};
@@ -34,8 +34,8 @@ pub(crate) fn read_tables(states: usize, transitions: &[u16], left: &[u8], right
     ensures { λ r. ⌜ TablesRead states (now (transitions .entry)) (now (left .entry)) (now (right .entry)) r ⌝ }
 {
     let graph = kripke::graph::read_transitions(states, transitions);
-    let left_row = kripke::rows::read_row(states, left);
-    let right_row = kripke::rows::read_row(states, right);
+    let left_row = values::rows::read_row(states, left);
+    let right_row = values::rows::read_row(states, right);
     let refusal = refusal_of(graph.refusal, left_row.valid, right_row.valid);
     let begins = graph.begins;
     let left_values = left_row.values;

@@ -1,8 +1,8 @@
 -- `check` meets its contract: a refusal, or whether an entry is at fault.
 use mathlib.Core.Path.{sym, subst, _∙_}
-use native.Mathlib.Omega.{arith}
 use Rattle.lists.specs.Entries.{at}
 use Rattle.paths.specs.Inside.{FaultFound}
+use Rattle.paths.proofs.Reading.{rows-long}
 use Rattle.paths.proofs.Promising.{check-broken, check-level, check-tables, check-whole}
 use borrow.Author.Needs.{needs}
 use Rattle.paths.proofs.check.Statement.{statement}
@@ -23,7 +23,7 @@ returns-2 c = check-level _ _ _ _ _ _ (c .before .before .before .read-tables .e
 first-fault-requires : tie.Need-first-fault-requires
 first-fault-requires c κs =
     let k = c .before .before .before .before .before .before .before .before .before .before .read-tables .ensures .taken (c .before .before .before .before .before .before .before .before .before .if1 .left) in
-    (k .ready, (omega (arith, k .left-row .few, k .left-row .long), omega (arith, k .right-row .few, k .right-row .long)))
+    (k .ready, rows-long k)
 
 enum-told : tie.Need-enum-told
 enum-told c = search needs

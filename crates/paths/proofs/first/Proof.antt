@@ -1,7 +1,7 @@
 -- `first` meets its contract: a refusal, or what `first_from` found.
 use mathlib.Core.Path.{sym, _∙_}
-use native.Mathlib.Omega.{arith}
 use borrow.Author.Tests.{leb-false}
+use Rattle.paths.proofs.Reading.{rows-long}
 use Rattle.paths.proofs.Promising.{first-level, first-start, first-tables, first-worked}
 use borrow.Author.Needs.{needs}
 use Rattle.paths.proofs.first.Statement.{statement}
@@ -28,7 +28,7 @@ returns-3 c = first-start _ _ _ _ _ _ (c .before .before .before .before .before
 first-from-requires : tie.Need-first-from-requires
 first-from-requires c κs =
     let k = c .before .before .before .before .before .before .before .before .before .before .before .before .before .read-tables .ensures .taken (c .before .before .before .before .before .before .before .before .before .before .before .before .if1 .left) in
-    (k .ready, (omega (arith, k .left-row .few, k .left-row .long), omega (arith, k .right-row .few, k .right-row .long), leb-false _ _ (sym (c .before .before .before .before .before .before .before .before .before .bad-start .ensures) ∙ c .before .before .before .before .before .before .before .before .if3 .left)))
+    (k .ready, (rows-long k .0, rows-long k .1, leb-false _ _ (sym (c .before .before .before .before .before .before .before .before .before .bad-start .ensures) ∙ c .before .before .before .before .before .before .before .before .if3 .left)))
 
 same-length : tie.Need-same-length
 same-length c = search needs

@@ -1,6 +1,6 @@
 -- `next` meets its contract: a refusal, or what `next_from` found.
 use mathlib.Core.Path.{sym, _∙_}
-use native.Mathlib.Omega.{arith}
+use Rattle.paths.proofs.Reading.{rows-long}
 use Rattle.paths.proofs.Promising.{next-level, next-tables, next-worked}
 use borrow.Author.Needs.{needs}
 use Rattle.paths.proofs.next.Statement.{statement}
@@ -21,7 +21,7 @@ returns-2 c = next-level _ _ _ _ _ _ (c .before .before .before .read-tables .en
 next-from-requires : tie.Need-next-from-requires
 next-from-requires c κs =
     let k = c .before .before .before .before .before .before .before .before .before .before .before .read-tables .ensures .taken (c .before .before .before .before .before .before .before .before .before .before .if1 .left) in
-    (k .ready, (omega (arith, k .left-row .few, k .left-row .long), omega (arith, k .right-row .few, k .right-row .long)))
+    (k .ready, rows-long k)
 
 same-length : tie.Need-same-length
 same-length c = search needs

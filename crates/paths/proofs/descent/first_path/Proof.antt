@@ -1,6 +1,9 @@
 -- `first_path` meets its contract: no distance, too little room, or `descend` on the front of the path space.
-use mathlib.Core.Path.{refl, sym, _∙_}
+use mathlib.Core.Path.{refl, sym, ap, _∙_}
+use Prim.Native.Nat.{ℕ}
+use mathlib.Core.List.{_++_}
 use native.Mathlib.Omega.{arith}
+use lib.ListN.{drop}
 use lib.Seq.{length-take-le}
 use borrow.Author.Needs.{needs}
 use Rattle.paths.proofs.descent.first_path.Statement.{statement}
@@ -42,7 +45,8 @@ returns-3 c =
     let x = c .before .before .before .before .before .before .before .before .before .before .before .args in
     let n = length-take-le _ (x .path .now) (c .before .before .before .before .if2 .left) in
     let d = c .before .before .descend in
-    (refl, c .before .before .before .before .if2 .left, (d .last .1 .1 .1 .1 .1 .0, d .kept .1 .1 .1 .1 .1 .0 ∙ n, refl, d .ensures))
+    let size = d .kept .1 .1 .1 .1 .1 .0 ∙ n in
+    (refl, c .before .before .before .before .if2 .left, (d .last .1 .1 .1 .1 .1 .0, size, ap (λ (k : ℕ). d .last .1 .1 .1 .1 .1 .0 ++ drop k (x .path .now)) (sym size), d .ensures))
 
 pub first-path-spec : {M : Type 1} → statement M
 first-path-spec =
