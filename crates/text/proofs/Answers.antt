@@ -8,17 +8,21 @@ use lib.ListN.{take, drop}
 use types.Run.{OneOf}
 use denote.Enum.Declared.{tagOf}
 use borrow.Author.Tests.{eqb-false}
+use Rattle.lists.specs.Entries.{at}
+use Rattle.lists.specs.Rows.{laid}
+use Rattle.model.specs.Model.{Model}
 use Rattle.text.specs.declared.cursor.Cursor.{Cursor}
 use Rattle.text.specs.declared.cursor.Line.{Line}
 use Rattle.text.specs.declared.cursor.Line.the-variants.{Read, Ends, Refused}
 use Rattle.text.proofs.cursor.Line.{the-type}
-use Rattle.text.specs.Readers.{Reading, Reader, on, placeOf, symbols}
-use Rattle.text.specs.Readers.Reading.{found, ends, refused}
-use Rattle.text.specs.Form.{Model}
-use Rattle.text.specs.Promise.{settled}
-use Rattle.text.specs.Promise.Outcome.{refusal}
-use Rattle.text.specs.Inside.{told, nothing, bare, laid, after, LineRead, refusalOf}
-use Rattle.text.proofs.Readings.{found-same, ends-found, refused-found, symbols-found}
+use Rattle.form.specs.Readers.{Reading, Reader, on, placeOf, symbols, countLine}
+use Rattle.form.specs.Readers.Reading.{found, ends, refused}
+use Rattle.text.specs.Answers.{settled}
+use Rattle.text.specs.Answers.Outcome.{refusal}
+use Rattle.form.specs.Print.{Count}
+use Rattle.text.specs.Inside.{told, carried, nothing, first, bare, after, LineRead, refusalOf}
+use Rattle.form.proofs.Readings.{found-same, ends-found, refused-found, symbols-found}
+use Rattle.form.proofs.Inverse.{count-inverse}
 
 -- the answer is no line
 abbrev pub Stops : Line → Type 0
@@ -33,9 +37,19 @@ stopped f g k text (Read x y c) o e t = absurd (no-stop x y c t)
 stopped f g k text Ends o e t = ap (λ r. on r k) e
 stopped f g k text (Refused n) o e t = ap (λ r. on r k) e
 
+pub handed : {A : Type 0} (f g : ℕ → ℕ → A) (text : List ℕ) (l : Line) (o : Reading A) → told f text l ≡ o → Stops l → told g text l ≡ o
+handed f g text (Read x y c) o e t = absurd (no-stop x y c t)
+handed f g text Ends o e t = e
+handed f g text (Refused n) o e t = e
+
 pub went : {A B : Type 0} (f : ℕ → ℕ → A) (k : A → Reader B) (text : List ℕ) (l : Line) (o : Reading A) {x y : ℕ} {c : Cursor}
     → told f text l ≡ o → l ≡ Read x y c → on o k ≡ k (f x y) (drop (c .at) text)
 went f k text l o e q = ap (λ r. on r k) (sym e ∙ ap (told f text) q)
+
+pub carries-none : (l : Line) (i : ℕ) → Stops l → at (carried l) i ≡ 0
+carries-none (Read x y c) i t = absurd (no-stop x y c t)
+carries-none Ends i t = refl
+carries-none (Refused n) i t = refl
 
 -- a line that was not read leaves its table, one that was is laid into it
 pub unread : (g : ℕ → ℕ → List ℕ) (text : List ℕ) (l : Line) (o : Reading (List ℕ)) (to : ℕ) (before : List ℕ)
@@ -103,3 +117,7 @@ pub outcome-refused : (f : ℕ → ℕ → Model) (text : List ℕ) (l : Line) (
 outcome-refused f text (Read x y c) o n q e t = absurd (no-stop x y c t)
 outcome-refused f text Ends o n q e t = ap refusal q ∙ ap settled e
 outcome-refused f text (Refused m) o n q e t = ap refusal q ∙ ap settled e
+
+-- a count that was read is in its range
+pub counted : (k : List ℕ) (least most n : ℕ) (text left : List ℕ) (l : Line) {x y : ℕ} {c : Cursor} → told first text l ≡ countLine k least most n left → l ≡ Read x y c → Count least most x
+counted k least most n text left l e q = count-inverse k least most n .back left _ _ (sym e ∙ ap (told first text) q) .1

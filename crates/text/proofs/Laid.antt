@@ -8,8 +8,7 @@ use native.Mathlib.Omega.{arith}
 use lib.ListN.{length, take, drop, set, length-append}
 use lib.Seq.{length-take-le, take-at, drop-at, paste, paste-zero, paste-suc, length-paste}
 use Rattle.lists.specs.Entries.{at}
-use Rattle.text.specs.Inside.{laid}
-use Rattle.text.specs.Promise.{filled}
+use Rattle.lists.specs.Rows.{fill, laid}
 
 -- a table whose first j values of s are laid from `to` on
 pub record Laying (s : List ℕ) (n to : ℕ) (before now : List ℕ) (j : ℕ) : Type 0 where
@@ -33,7 +32,7 @@ module _ (s : List ℕ) (n to : ℕ) (before : List ℕ) (room : n ≤ length s)
       let q : j ≡ n = omega (arith, l .within) in
       l .table ∙ ap (paste before to s) q ∙ ap (λ (m : ℕ). take to before ++ take n s ++ drop (to + m) before) (sym (length-take-le n s room))
 
-pub laid-front : (xs before : List ℕ) → laid 0 xs before ≡ filled xs before
+pub laid-front : (xs before : List ℕ) → laid 0 xs before ≡ fill xs before
 laid-front xs before = ap (λ (m : ℕ). xs ++ drop m before) (zero-add (length xs))
 
 -- what stands in a table then, up to the values' end and behind it

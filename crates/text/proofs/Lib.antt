@@ -1,14 +1,9 @@
-pub mod Steps
 pub mod Laid
-pub mod Readings
 pub mod Answers
 pub mod Numbers
 pub mod Reached
+pub mod Parts
 pub mod Whole
-pub mod Decimal
-pub mod Inverse
-pub mod InverseLines
-pub mod Printed
 pub mod Promised
 pub mod Refusals
-pub mod Steady
+pub mod Occurring

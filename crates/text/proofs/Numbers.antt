@@ -7,14 +7,14 @@ use native.Mathlib.Nat.{sub-zero}
 use native.Mathlib.Omega.{arith}
 use lib.ListN.{length, take, drop, set, length-set}
 use lib.Seq.{take-suc-set}
-use Rattle.kripke.specs.Signs.{stopBefore}
+use Rattle.values.specs.Signs.{stopBefore}
 use Rattle.text.specs.declared.cursor.Cursor.{Cursor}
 use Rattle.text.specs.declared.cursor.Line.{Line}
 use Rattle.text.specs.declared.cursor.Line.the-variants.{Read}
-use Rattle.text.specs.Readers.{on, give, valued, number, numbers}
-use Rattle.text.specs.Readers.Reading.{found}
+use Rattle.form.specs.Readers.{on, give, valued, number, numbers}
+use Rattle.form.specs.Readers.Reading.{found}
 use Rattle.text.specs.Inside.{told, first}
-use Rattle.text.proofs.Steps.{joined, valued-nothing}
+use Rattle.form.proofs.Steps.{joined, valued-nothing}
 use Rattle.text.proofs.Answers.{Stops, stopped, went}
 
 -- j numbers were read: they stand in the front, and the others are read from `at` on

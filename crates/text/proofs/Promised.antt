@@ -6,19 +6,19 @@ use mathlib.Core.Bool.{Bool, true, false, cond}
 use native.Mathlib.Omega.{arith}
 use lib.ListN.{length}
 use lib.Dec.{ltb}
-use borrow.Author.Tests.{le-ltb}
-use Rattle.kripke.specs.Limits.{mostText}
-use Rattle.text.specs.Readers.{Reading}
-use Rattle.text.specs.Readers.Reading.{found, ends, refused}
-use Rattle.text.specs.Form.{Model, modelText}
-use Rattle.text.specs.Print.{print, Printable, Accepted}
-use Rattle.text.specs.Promise.{Tables, Outcome, settled, anyShort, textOutcome, outcome, numberOf, countsOf, numberDue, countsDue, tablesDue, ModelRead}
-use Rattle.text.specs.Promise.Outcome.{model, refusal}
+use Rattle.values.specs.Limits.{mostText}
+use Rattle.kripke.specs.Transitions.{count}
+use Rattle.model.specs.Model.{Model, nodeCount}
+use Rattle.form.specs.Readers.{Reading}
+use Rattle.form.specs.Readers.Reading.{found, ends, refused}
+use Rattle.form.specs.Form.{modelText}
+use Rattle.form.specs.Print.{print, Printable}
+use Rattle.text.specs.Answers.{Tables, Outcome, settled, anyShort, textOutcome, outcome, numberOf, countsOf, numberDue, countsDue, tablesDue, ModelRead, Accepted}
+use Rattle.text.specs.Answers.Outcome.{model, refusal}
 use Rattle.text.specs.declared.Read.{Read}
 use Rattle.text.specs.declared.Read.the-variants as read
-use Rattle.text.proofs.Readings.{found-same}
-use Rattle.text.proofs.Printed.{model-reads, model-back}
-use Rattle.text.proofs.Whole.{settled-printable}
+use Rattle.form.proofs.Printed.{model-reads, model-back}
+use Rattle.text.proofs.Whole.{outcome-here, outcome-text, settled-printable}
 
 -- a number and values say which answer it is
 answer-one : (r r′ : Read) → numberOf r ≡ numberOf r′ → countsOf r ≡ countsOf r′ → r ≡ r′
@@ -39,28 +39,15 @@ refusal-leaves text before after n p = p .lent ∙ same (outcome before text) (p
     same (refusal m) e = refl
     same (model m) e = absurd (let z : _≡_ {A = ℕ} 0 1 = cc in omega arith)
 
--- no two printable models have one print, and a text has one reading
-pub print-one : (m m′ : Model) → Printable m → Printable m′ → print m ≡ print m′ → m ≡ m′
-print-one m m′ g g′ e = found-same (sym (model-reads m g) ∙ ap modelText e ∙ model-reads m′ g′) .0
-
--- the form reads a text exactly if it is the print of a printable model
-pub well-formed : (text : List ℕ) (m : Model) → modelText text ≡ found m [] → (text ≡ print m) × Printable m
-well-formed text m e = model-back text m [] e
-
-pub formed-well : (text : List ℕ) (m : Model) → text ≡ print m → Printable m → modelText text ≡ found m []
-formed-well text m e g = ap modelText e ∙ model-reads m g
-
 outcome-print : (before : Tables) (m : Model) → Printable m → anyShort before ≡ false → length (print m) ≤ mostText → outcome before (print m) ≡ model m
-unfolding outcome textOutcome
-outcome-print before m g h b =
-    simp (h, le-ltb mostText (length (print m)) b) (ap settled (model-reads m g))
+outcome-print before m g h l = outcome-text before (print m) h l ∙ ap settled (model-reads m g)
 
--- `read_model` reads the print of a printable model as that model, where it is within the text limit and no table is too short
+-- `read_model` reads the print of a printable model as that model, where no table is too short and the print not too long
 pub print-read : (before after : Tables) (m : Model) (r : Read) → Printable m → anyShort before ≡ false → length (print m) ≤ mostText → ModelRead (print m) before after r
-    → (r ≡ read.Model (m .labelled .states) (m .labelled .atoms) (m .transitions .count) (m .nodes .count)) × (after ≡ tablesDue (model m) before)
-print-read before after m r g h b p =
-    let e = outcome-print before m g h b in (
-      answer-one r (read.Model (m .labelled .states) (m .labelled .atoms) (m .transitions .count) (m .nodes .count)) (p .number ∙ ap numberDue e) (p .counts ∙ ap countsDue e),
+    → (r ≡ read.Model (m .states) (m .atoms) (count (m .transitions)) (nodeCount (m .nodes))) × (after ≡ tablesDue (model m) before)
+print-read before after m r g h l p =
+    let e = outcome-print before m g h l in (
+      answer-one r (read.Model (m .states) (m .atoms) (count (m .transitions)) (nodeCount (m .nodes))) (p .number ∙ ap numberDue e) (p .counts ∙ ap countsDue e),
       p .lent ∙ ap (λ (o : Outcome). tablesDue o before) e,
     )
 
@@ -85,10 +72,6 @@ read-print text before after s a e f p =
     by false false o q c l = all (modelText text) refl (c ∙ ap countsDue q) (l ∙ ap (λ (x : Outcome). tablesDue x before) q)
 
 -- into tables that are long enough reading comes to what the text comes to
-outcome-here : (before : Tables) (text : List ℕ) → anyShort before ≡ false → outcome before text ≡ textOutcome text
-unfolding outcome
-outcome-here before text e = simp e
-
 pub read-comes : (text : List ℕ) (before after : Tables) (r : Read) → anyShort before ≡ false → ModelRead text before after r
     → (numberOf r ≡ numberDue (textOutcome text)) × (countsOf r ≡ countsDue (textOutcome text)) × (after ≡ tablesDue (textOutcome text) before)
 read-comes text before after r e p =

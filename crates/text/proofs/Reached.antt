@@ -7,15 +7,16 @@ use native.Mathlib.Nat.{zero-add, sub-zero, mul-zero, mul-suc, mul-le-mul-left}
 use native.Mathlib.Omega.{arith}
 use lib.ListN.{length, take, drop}
 use lib.Seq.{drop-drop}
+use Rattle.lists.specs.Rows.{laid}
 use Rattle.text.specs.declared.cursor.Cursor.{Cursor}
 use Rattle.text.specs.declared.cursor.Line.{Line}
 use Rattle.text.specs.declared.cursor.Line.the-variants.{Read}
-use Rattle.text.specs.Readers.{Reading, Reader, on, give, valued, lines, rowLine}
-use Rattle.text.specs.Readers.Reading.{found}
-use Rattle.text.specs.Inside.{told, laid, after, LineRead, LinesRead}
-use Rattle.text.proofs.Steps.{joined, valued-nothing}
+use Rattle.form.specs.Readers.{Reading, Reader, on, give, valued, lines, rowLine}
+use Rattle.form.specs.Readers.Reading.{found}
+use Rattle.text.specs.Inside.{told, after, LineRead, LinesRead}
+use Rattle.form.proofs.Steps.{joined, valued-nothing}
 use Rattle.text.proofs.Laid.{laid-take, laid-drop}
-use Rattle.text.proofs.Readings.{row-size}
+use Rattle.form.proofs.Readings.{row-size}
 use Rattle.text.proofs.Answers.{Stops, stopped, took, missed, missed-table, whole}
 
 -- k lines of w values were read: they stand in the front, and the other lines are read from `at` on

@@ -1,13 +1,18 @@
 -- What the private functions answer one another: the value and what is left of the text, that the text ends, or the number of a refusal.
-use Prim.Native.Nat.{ℕ, _+_, _*_}
+use Prim.Native.Nat.{ℕ, _*_, _≤_}
 use mathlib.Core.Path.{_≡_}
-use mathlib.Core.List.{List, _++_}
-use lib.ListN.{length, take, drop}
-use Rattle.text.specs.Readers.{Reading, valued}
-use Rattle.text.specs.Readers.Reading.{found, ends, refused}
-use Rattle.text.specs.Form.{Labelled, Listed, Model}
-use Rattle.text.specs.Promise.{Outcome}
-use Rattle.text.specs.Promise.Outcome.{model, refusal}
+use mathlib.Core.List.{List, [], _∷_}
+use lib.ListN.{take, drop}
+use Rattle.lists.specs.Entries.{at}
+use Rattle.lists.specs.Rows.{laid}
+use Rattle.values.specs.Limits.{mostStates, mostAtoms, mostTransitions, mostNodes}
+use Rattle.values.specs.Signs.{letters}
+use Rattle.model.specs.Model.{Model, asModel}
+use Rattle.form.specs.Readers.{Reading, Reader, valued, _>>=_, give, countLine, rowLine, lines, end}
+use Rattle.form.specs.Readers.Reading.{found, ends, refused}
+use Rattle.form.specs.Form.{keyStates, keyAtoms, keyInit, keyLabel, keyEdges, keyEdge, keyNodes, keyNode, bits, listed, modelText}
+use Rattle.text.specs.Answers.{Outcome, settled, countsOf}
+use Rattle.text.specs.Answers.Outcome.{model, refusal}
 use Rattle.text.specs.declared.Read.{Read}
 use Rattle.text.specs.declared.Read.the-variants as read
 use Rattle.text.specs.declared.cursor.Line.{Line}
@@ -18,6 +23,12 @@ abbrev pub told : {A : Type 0} → (ℕ → ℕ → A) → List ℕ → Line →
 told value text (line.Read x y c) = found (value x y) (drop (c .at) text)
 told value text line.Ends = ends
 told value text (line.Refused n) = refused n
+
+-- these two numbers
+abbrev pub carried : Line → List ℕ
+carried (line.Read x y c) = x ∷ y ∷ []
+carried line.Ends = []
+carried (line.Refused n) = []
 
 -- a line, or a part of one, that carries no number
 abbrev pub nothing : ℕ → ℕ → Unit {0}
@@ -30,10 +41,6 @@ first x y = x
 -- a reading without its value
 abbrev pub bare : {A : Type 0} → Reading A → Reading (Unit {0})
 bare o = valued (λ a. tt) o
-
--- xs over what stood in a table from a place on
-abbrev pub laid : ℕ → List ℕ → List ℕ → List ℕ
-laid to xs before = take to before ++ xs ++ drop (to + length xs) before
 
 -- the table after a line: what it holds is laid into it once the line is accepted
 abbrev pub after : Reading (List ℕ) → ℕ → List ℕ → List ℕ
@@ -51,13 +58,54 @@ pub record LinesRead (o : Reading (List ℕ)) (text : List ℕ) (n : ℕ) (befor
   pub says : told (λ x y. take n now) text answer ≡ o
   pub rest : drop n now ≡ drop n before
 
+-- a model but for its two lists
+abbrev pub Unlisted : Type 0
+Unlisted = List ℕ → List ℕ → Model
+
+-- the form in parts: init and one label line a state
+unfoldable pub rowsText : ℕ → ℕ → Reader Unlisted
+rowsText S A = do
+  I ← rowLine keyInit bits S
+  L ← lines (rowLine keyLabel letters A) S
+  give (asModel S A L I)
+
+-- states, atoms, and these rows
+unfoldable pub labelledText : Reader Unlisted
+labelledText = do
+  S ← countLine keyStates 1 mostStates 1
+  A ← countLine keyAtoms 0 mostAtoms 2
+  rowsText S A
+
+-- edges, nodes, and nothing after the last line
+unfoldable pub listsText : Unlisted → Reader Model
+listsText m = do
+  es ← listed keyEdges keyEdge 2 mostTransitions 6
+  ns ← listed keyNodes keyNode 3 mostNodes 10
+  _ ← end
+  give (m es ns)
+
 -- the states, by two counts, with what each is in the fronts of two tables
-abbrev pub labelledIn : List ℕ → List ℕ → ℕ → ℕ → Labelled
-labelledIn labels initial x y = record { states = x; atoms = y; initial = take x initial; labels = take (y * x) labels }
+abbrev pub labelledIn : List ℕ → List ℕ → ℕ → ℕ → Unlisted
+labelledIn labels initial x y = asModel x y (take (y * x) labels) (take x initial)
 
 -- lines of w numbers, by their count, in the front of a table
-abbrev pub listedIn : ℕ → List ℕ → ℕ → ℕ → Listed
-listedIn w table x y = record { count = x; numbers = take (w * x) table }
+abbrev pub listedIn : ℕ → List ℕ → ℕ → ℕ → List ℕ
+listedIn w table x y = take (w * x) table
+
+-- a model whose lists stand in the fronts of two tables
+abbrev pub listsIn : Unlisted → List ℕ → List ℕ → ℕ → ℕ → Model
+listsIn m transitions nodes x y = m (listedIn 2 transitions x 0) (listedIn 3 nodes y 0)
+
+-- a list that was read: it stands in the front of its table, and its count is within the limit
+pub record ListRead (o : Reading (List ℕ)) (text : List ℕ) (w most : ℕ) (now : List ℕ) (answer : Line) : Type 0 where
+  pub says : told (listedIn w now) text answer ≡ o
+  pub few : at (carried answer) 0 ≤ most
+
+-- both lists, of any model
+pub record ListsRead (text left T N : List ℕ) (answer : Line) : Type 0 where
+  pub says : (m : Unlisted) → told (listsIn m T N) text answer ≡ listsText m left
+  pub edges : at (carried answer) 0 ≤ mostTransitions
+  pub nodes : at (carried answer) 1 ≤ mostNodes
 
 -- the refusal of a line that was not read: a text that ends too soon breaks the form
 abbrev pub refusalOf : Line → ℕ
@@ -65,15 +113,13 @@ refusalOf (line.Read x y c) = 19
 refusalOf line.Ends = 19
 refusalOf (line.Refused n) = n
 
--- a model whose lists stand in the fronts of two tables
-abbrev pub listsIn : Labelled → List ℕ → List ℕ → ℕ → ℕ → Model
-listsIn l transitions nodes x y = record { labelled = l; transitions = listedIn 2 transitions x 0; nodes = listedIn 3 nodes y 0 }
-
--- the model in the fronts of the tables, by the counts of an answer
-abbrev pub modelIn : List ℕ → List ℕ → List ℕ → List ℕ → ℕ → ℕ → ℕ → ℕ → Model
-modelIn L I T N s a e f = listsIn (labelledIn L I s a) T N e f
-
 -- what an answer comes to, its model in the fronts of the tables
 abbrev pub outcomeIn : List ℕ → List ℕ → List ℕ → List ℕ → Read → Outcome
-outcomeIn L I T N (read.Model s a e f) = model (modelIn L I T N s a e f)
+outcomeIn L I T N (read.Model s a e f) = model (listsIn (labelledIn L I s a) T N e f)
 outcomeIn L I T N (read.Refused n) = refusal n
+
+-- the whole text was read: its model stands in the fronts of the tables, and the counts of its lists are within the limits
+pub record TextRead (text L I T N : List ℕ) (answer : Read) : Type 0 where
+  pub says : outcomeIn L I T N answer ≡ settled (modelText text)
+  pub edges : at (countsOf answer) 2 ≤ mostTransitions
+  pub nodes : at (countsOf answer) 3 ≤ mostNodes

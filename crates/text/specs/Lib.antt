@@ -1,5 +1,2 @@
-pub mod Readers
-pub mod Form
-pub mod Promise
+pub mod Answers
 pub mod Inside
-pub mod Print

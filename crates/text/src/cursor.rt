@@ -2,8 +2,8 @@
 ghost use mathlib.Core.Path.{_≡_};
 ghost use Prim.Native.Nat.{_+_, _≤_};
 ghost use lib.ListN.{length, take, drop};
-ghost use Rattle.kripke.specs.Signs.{digits};
-ghost use Rattle.text.specs.Readers.{exactly, number, placeOf, mayGrow, symbols, numbers};
+ghost use Rattle.values.specs.Signs.{digits};
+ghost use Rattle.form.specs.Readers.{exactly, number, placeOf, mayGrow, symbols, numbers};
 ghost use Rattle.text.specs.Inside.{told, nothing, first, bare};
 
 pub struct Cursor {
@@ -136,7 +136,7 @@ impl Cursor {
         let mut c = self;
         let mut j = 0;
         while j < w {
-            let line = c.number(text, kripke::signs::stop_before(w - (j + 1)));
+            let line = c.number(text, values::signs::stop_before(w - (j + 1)));
             let Line::Read(n, _, next) = line else {
                 return line;
             };

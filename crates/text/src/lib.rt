@@ -2,26 +2,26 @@
 //
 //   cursor   the reader's place, and what it reads within a line: a key, a number, symbols
 //   lines    whole lines: a count, a row of symbols, w numbers; each lays its values into a table once it is accepted
-//   model    the parts of a model, and all of it
+//   sections the parts of a model, and all of it
 //   tables   the lent tables: whether they are long enough, and their fronts filled
 //
-// specs/Readers and specs/Form say what the form is, specs/Promise what `read_model` promises, specs/Print how a model is printed.
-use kripke::limits::MOST_LABELS;
-use kripke::limits::MOST_NODE_NUMBERS;
-use kripke::limits::MOST_STATES;
-use kripke::limits::MOST_TEXT;
-use kripke::limits::MOST_TRANSITION_NUMBERS;
+// Crate form says what the form is and how a model is printed, specs/Answers what `read_model` promises.
+use values::limits::MOST_LABELS;
+use values::limits::MOST_NODE_NUMBERS;
+use values::limits::MOST_STATES;
+use values::limits::MOST_TEXT;
+use values::limits::MOST_TRANSITION_NUMBERS;
 
 mod cursor;
 mod lines;
-mod model;
+mod sections;
 mod tables;
 
-use model::read_tables;
+use sections::read_tables;
 use tables::copy_bytes;
 use tables::copy_numbers;
 use tables::too_short;
-ghost use Rattle.text.specs.Promise.{tables, ModelRead};
+ghost use Rattle.text.specs.Answers.{tables, ModelRead};
 
 // What reading answers.
 pub enum Read {

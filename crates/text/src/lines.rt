@@ -6,9 +6,9 @@ use super::tables::lay_symbols;
 ghost use mathlib.Core.Path.{_≡_};
 ghost use Prim.Native.Nat.{_+_, _*_, _≤_};
 ghost use lib.ListN.{length, drop};
-ghost use Rattle.kripke.specs.Signs.{letters};
-ghost use Rattle.text.specs.Readers.{countLine, rowLine, numbersLine, lines};
-ghost use Rattle.text.specs.Form.{keyLabel};
+ghost use Rattle.values.specs.Signs.{letters};
+ghost use Rattle.form.specs.Readers.{countLine, rowLine, numbersLine, lines};
+ghost use Rattle.form.specs.Form.{keyLabel};
 ghost use Rattle.text.specs.Inside.{told, first, LineRead, LinesRead};
 
 // The numbers of the longest line.

@@ -1,16 +1,16 @@
 // The lent tables: whether they are long enough, and their fronts filled.
 use super::cursor::place_of;
-use kripke::limits::MOST_LABELS;
-use kripke::limits::MOST_NODE_NUMBERS;
-use kripke::limits::MOST_STATES;
-use kripke::limits::MOST_TRANSITION_NUMBERS;
+use values::limits::MOST_LABELS;
+use values::limits::MOST_NODE_NUMBERS;
+use values::limits::MOST_STATES;
+use values::limits::MOST_TRANSITION_NUMBERS;
 ghost use mathlib.Core.Path.{_≡_};
 ghost use mathlib.Core.List.{map};
 ghost use Prim.Native.Nat.{_+_, _≤_};
 ghost use lib.ListN.{length, take, drop};
-ghost use Rattle.text.specs.Readers.{placeOf};
-ghost use Rattle.text.specs.Inside.{laid};
-ghost use Rattle.text.specs.Promise.{tooShort, filled};
+ghost use Rattle.lists.specs.Rows.{fill, laid};
+ghost use Rattle.form.specs.Readers.{placeOf};
+ghost use Rattle.text.specs.Answers.{tooShort};
 
 // Whether a table of one of these lengths is too short for the largest model.
 pub(crate) fn too_short(labels: usize, initial: usize, transitions: usize, nodes: usize) -> bool
@@ -63,7 +63,7 @@ pub(crate) fn copy_numbers(src: &[u16], n: usize, dst: &mut [u16], to: usize)
 // The first n bytes of src over the front of dst.
 pub(crate) fn copy_bytes(src: &[u8], n: usize, dst: &mut [u8])
     requires { ⌜ (n ≤ length (now src)) × (n ≤ length (now dst)) ⌝ }
-    ensures { λ r. ⌜ now (dst .exit) ≡ filled (take n (now (src .entry))) (now (dst .entry)) ⌝ }
+    ensures { λ r. ⌜ now (dst .exit) ≡ fill (take n (now (src .entry))) (now (dst .entry)) ⌝ }
 {
     let mut j = 0;
     while j < n {

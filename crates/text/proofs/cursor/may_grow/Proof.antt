@@ -2,7 +2,7 @@
 use native.Mathlib.Omega.{arith}
 use borrow.Author.Needs.{needs}
 use borrow.Author.Tests.{lt-ltb, le-ltb}
-use Rattle.text.specs.Readers.{mayGrow}
+use Rattle.form.specs.Readers.{mayGrow}
 use Rattle.text.proofs.cursor.may_grow.Statement.{statement}
 use Rattle.text.proofs.cursor.may_grow.Tie as tie
 

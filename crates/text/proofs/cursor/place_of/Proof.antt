@@ -5,8 +5,8 @@ use Prim.Native.Nat.{_+_, _-_, _≤_}
 use mathlib.Core.Path.{_≡_}
 use denote.Ref.{now}
 use lib.ListN.{length, drop}
-use Rattle.text.specs.Readers.{placeOf}
-use Rattle.text.proofs.Steps.{place-here, place-on, place-none}
+use Rattle.form.specs.Readers.{placeOf}
+use Rattle.form.proofs.Steps.{place-here, place-on, place-none}
 use Rattle.text.proofs.cursor.place_of.Statement.{statement}
 use Rattle.text.proofs.cursor.place_of.Tie as tie
 

@@ -7,8 +7,8 @@ use mathlib.Core.List.{List, map}
 use denote.Ref.{now}
 use lib.ListN.{length, drop, length-drop, length-map}
 use lib.Seq.{getD-drop}
-use Rattle.text.specs.Readers.{placeOf}
-use Rattle.text.specs.Inside.{laid}
+use Rattle.lists.specs.Rows.{laid}
+use Rattle.form.specs.Readers.{placeOf}
 use Rattle.text.proofs.Laid.{Laying, laying-none, laying-more, laying-done, map-at, map-take}
 use Rattle.text.proofs.tables.lay_symbols.Statement.{statement}
 use Rattle.text.proofs.tables.lay_symbols.Tie as tie

@@ -1,6 +1,6 @@
 -- `too_short` meets its contract. Each way out by its tests.
 use borrow.Author.Tests.{lt-ltb, le-ltb}
-use Rattle.text.specs.Promise.{tooShort}
+use Rattle.text.specs.Answers.{tooShort}
 use Rattle.text.proofs.tables.too_short.Statement.{statement}
 use Rattle.text.proofs.tables.too_short.Tie as tie
 

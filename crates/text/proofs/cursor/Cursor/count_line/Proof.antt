@@ -4,7 +4,7 @@ use mathlib.Core.Path.{_≡_, sym, _∙_}
 use lib.ListN.{drop}
 use denote.Ref.{now}
 use borrow.Author.Tests.{le-leb, lt-leb}
-use Rattle.text.specs.Readers.{exactly, number, within, countLine}
+use Rattle.form.specs.Readers.{exactly, number, within, countLine}
 use Rattle.text.specs.Inside.{nothing, first}
 use Rattle.text.proofs.Answers.{stopped, went}
 use Rattle.text.proofs.cursor.Cursor.count_line.Statement.{statement}

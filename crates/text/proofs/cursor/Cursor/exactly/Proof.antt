@@ -5,8 +5,8 @@ use Prim.Native.Nat.{_-_, _≤_}
 use mathlib.Core.Path.{_≡_, refl, sym, _∙_}
 use denote.Ref.{now}
 use lib.ListN.{length, drop}
-use Rattle.text.specs.Readers.{exactly}
-use Rattle.text.proofs.Steps.{exactly-ends, exactly-broken, exactly-on, exactly-done}
+use Rattle.form.specs.Readers.{exactly}
+use Rattle.form.proofs.Steps.{exactly-ends, exactly-broken, exactly-on, exactly-done}
 use Rattle.text.proofs.cursor.Cursor.exactly.Statement.{statement}
 use Rattle.text.proofs.cursor.Cursor.exactly.Tie as tie
 

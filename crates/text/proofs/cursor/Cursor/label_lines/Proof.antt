@@ -5,10 +5,10 @@ use mathlib.Core.Path.{refl, _∙_}
 use Prim.Native.Nat.{_-_}
 use denote.Ref.{now}
 use lib.ListN.{length, drop}
-use Rattle.kripke.specs.Signs.{letters}
-use Rattle.text.specs.Readers.{rowLine}
-use Rattle.text.specs.Form.{keyLabel}
-use Rattle.text.proofs.Readings.{row-size}
+use Rattle.values.specs.Signs.{letters}
+use Rattle.form.specs.Readers.{rowLine}
+use Rattle.form.specs.Form.{keyLabel}
+use Rattle.form.proofs.Readings.{row-size}
 use Rattle.text.proofs.Reached.{Reached, room, reached-none, reached-more, reached-stopped, reached-done}
 use Rattle.text.proofs.cursor.Cursor.label_lines.Statement.{statement}
 use Rattle.text.proofs.cursor.Cursor.label_lines.Tie as tie

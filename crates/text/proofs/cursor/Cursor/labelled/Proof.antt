@@ -1,15 +1,14 @@
 -- `labelled` meets its contract. The two counts and then the rows, each by the answer before it.
 use native.Mathlib.Omega.{arith}
 use borrow.Author.Needs.{needs}
-use mathlib.Core.Path.{ap, sym, _∙_}
+use mathlib.Core.Path.{sym, _∙_}
 use denote.Ref.{now}
 use lib.ListN.{drop}
 use native.Mathlib.Nat.{mul-le-mul, mul-comm}
-use Rattle.kripke.specs.Limits.{mostStates, mostAtoms}
-use Rattle.text.specs.Form.{labelledText, keyStates, keyAtoms}
-use Rattle.text.specs.Inside.{told, first, labelledIn}
-use Rattle.text.proofs.Inverse.{count-inverse}
-use Rattle.text.proofs.Answers.{stopped, went}
+use Rattle.values.specs.Limits.{mostStates, mostAtoms}
+use Rattle.form.specs.Form.{keyStates, keyAtoms}
+use Rattle.text.specs.Inside.{first, labelledText, labelledIn}
+use Rattle.text.proofs.Answers.{stopped, went, counted}
 use Rattle.text.proofs.cursor.Cursor.labelled.Statement.{statement}
 use Rattle.text.proofs.cursor.Cursor.labelled.Tie as tie
 
@@ -57,10 +56,10 @@ rows-requires c κs =
     let y = c .before .before .before .before .before .count-line2 in
     let g = c .before .before .before .before .before .before .before .before .first .given in
     let h = c .before .before .before .second .given in
-    let S = count-inverse keyStates 1 mostStates 1 .back (drop (a .self .at) s) _ _ (sym (x .ensures) ∙ ap (told first s) (g .1)) in
-    let A = count-inverse keyAtoms 0 mostAtoms 2 .back (drop (g .0 .1 .1 .0 .at) s) _ _ (sym (y .ensures) ∙ ap (told first s) (h .1)) in
+    let S = counted keyStates 1 mostStates 1 s (drop (a .self .at) s) (x .result) (x .ensures) (g .1) in
+    let A = counted keyAtoms 0 mostAtoms 2 s (drop (g .0 .1 .1 .0 .at) s) (y .result) (y .ensures) (h .1) in
     let p = c .before .before .before .before .before .before .before .before .before .before .before .before .before .before .before .pre in
-    (omega (arith, mul-le-mul (S .1 .most) (A .1 .most), mul-comm (g .0 .0) (h .0 .0), p .0), omega (arith, S .1 .most, p .1))
+    (omega (arith, mul-le-mul (S .most) (A .most), mul-comm (g .0 .0) (h .0 .0), p .0), omega (arith, S .most, p .1))
 
 same-length : tie.Need-same-length
 same-length c = search needs

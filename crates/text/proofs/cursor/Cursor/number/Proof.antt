@@ -6,8 +6,8 @@ use mathlib.Core.Path.{_≡_, sym, _∙_}
 use denote.Ref.{now}
 use lib.ListN.{length, drop}
 use borrow.Author.Tests.{not-true, not-false}
-use Rattle.text.specs.Readers.{number, numberFrom}
-use Rattle.text.proofs.Steps.{grows, from-ends, from-stop, from-broken, from-on, number-ends, number-broken, number-on}
+use Rattle.form.specs.Readers.{number, numberFrom}
+use Rattle.form.proofs.Steps.{grows, from-ends, from-stop, from-broken, from-on, number-ends, number-broken, number-on}
 use Rattle.text.proofs.cursor.Cursor.number.Statement.{statement}
 use Rattle.text.proofs.cursor.Cursor.number.Tie as tie
 

@@ -5,8 +5,8 @@ use mathlib.Core.Path.{refl, _∙_}
 use Prim.Native.Nat.{_-_}
 use denote.Ref.{now}
 use lib.ListN.{length, drop}
-use Rattle.text.specs.Readers.{numbersLine}
-use Rattle.text.proofs.InverseLines.{line-inverse}
+use Rattle.form.specs.Readers.{numbersLine}
+use Rattle.form.proofs.InverseLines.{line-inverse}
 use Rattle.text.proofs.Reached.{Reached, room, reached-none, reached-more, reached-stopped, reached-done}
 use Rattle.text.proofs.cursor.Cursor.number_lines.Statement.{statement}
 use Rattle.text.proofs.cursor.Cursor.number_lines.Tie as tie

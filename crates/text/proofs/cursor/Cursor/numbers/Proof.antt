@@ -5,7 +5,7 @@ use mathlib.Core.Path.{ap, _∙_}
 use denote.Ref.{now}
 use Prim.Native.Nat.{ℕ, _-_}
 use lib.ListN.{length, drop}
-use Rattle.text.specs.Readers.{number}
+use Rattle.form.specs.Readers.{number}
 use Rattle.text.proofs.Numbers.{Held, held-none, held-more, held-stopped, held-done}
 use Rattle.text.proofs.cursor.Cursor.numbers.Statement.{statement}
 use Rattle.text.proofs.cursor.Cursor.numbers.Tie as tie

@@ -5,7 +5,7 @@ use mathlib.Core.List.{[]}
 use Prim.Native.Nat.{_-_}
 use denote.Ref.{now}
 use lib.ListN.{take}
-use Rattle.text.specs.Readers.{numbersLine}
+use Rattle.form.specs.Readers.{numbersLine}
 use Rattle.text.specs.Inside.{told, nothing}
 use Rattle.text.proofs.Answers.{stopped, went, unread, line-read}
 use Rattle.text.proofs.cursor.Cursor.numbers_line.Statement.{statement}

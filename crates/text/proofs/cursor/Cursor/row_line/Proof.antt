@@ -5,9 +5,9 @@ use mathlib.Core.List.{[], map}
 use Prim.Native.Nat.{_-_}
 use denote.Ref.{now}
 use lib.ListN.{take, drop}
-use Rattle.text.specs.Readers.{placeOf, rowLine}
+use Rattle.form.specs.Readers.{placeOf, rowLine}
 use Rattle.text.specs.Inside.{told, nothing}
-use Rattle.text.proofs.Readings.{row-fits}
+use Rattle.form.proofs.Readings.{row-fits}
 use Rattle.text.proofs.Answers.{stopped, went, unread, line-read, row-told}
 use Rattle.text.proofs.cursor.Cursor.row_line.Statement.{statement}
 use Rattle.text.proofs.cursor.Cursor.row_line.Tie as tie

@@ -4,8 +4,8 @@ use mathlib.Core.Path.{sym, _∙_}
 use Prim.Native.Nat.{_*_}
 use denote.Ref.{now}
 use lib.ListN.{take, drop}
-use Rattle.text.specs.Form.{rowsText, keyInit, bits}
-use Rattle.text.specs.Inside.{labelledIn}
+use Rattle.form.specs.Form.{keyInit, bits}
+use Rattle.text.specs.Inside.{rowsText, labelledIn}
 use Rattle.text.proofs.Answers.{stopped, went}
 use Rattle.text.proofs.Reached.{row-front}
 use Rattle.text.proofs.cursor.Cursor.rows.Statement.{statement}

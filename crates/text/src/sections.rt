@@ -2,17 +2,16 @@
 use super::Read;
 use super::cursor::Cursor;
 use super::cursor::Line;
-use kripke::limits::MOST_ATOMS;
-use kripke::limits::MOST_NODES;
-use kripke::limits::MOST_STATES;
-use kripke::limits::MOST_TRANSITIONS;
+use values::limits::MOST_ATOMS;
+use values::limits::MOST_NODES;
+use values::limits::MOST_STATES;
+use values::limits::MOST_TRANSITIONS;
 ghost use mathlib.Core.Path.{_≡_};
 ghost use Prim.Native.Nat.{_*_, _≤_};
 ghost use lib.ListN.{length, drop};
-ghost use Rattle.kripke.specs.Limits.{mostStates, mostLabels, mostTransitionNumbers, mostNodeNumbers};
-ghost use Rattle.text.specs.Form.{rowsText, Labelled, labelledText, listedText, listsText, modelText};
-ghost use Rattle.text.specs.Promise.{settled};
-ghost use Rattle.text.specs.Inside.{told, labelledIn, listedIn, listsIn, refusalOf, outcomeIn};
+ghost use Rattle.values.specs.Limits.{mostStates, mostLabels, mostTransitionNumbers, mostNodeNumbers};
+ghost use Rattle.form.specs.Form.{listed};
+ghost use Rattle.text.specs.Inside.{told, rowsText, labelledText, labelledIn, ListRead, ListsRead, refusalOf, TextRead};
 
 impl Cursor {
     // The initial row and a line of labels a state. The answer carries the two counts on.
@@ -67,8 +66,8 @@ impl Cursor {
         out: &mut [u16],
     ) -> Line
         requires { ⌜ (w ≤ 3) × (w * most ≤ length (now out)) ⌝ }
-        ensures { λ r. ⌜ told (listedIn w (now (out .exit))) (now (text .entry)) r
-            ≡ listedText (now (many .entry)) (now (one .entry)) w most refusal (drop (self .at) (now (text .entry))) ⌝ }
+        ensures { λ r. ⌜ ListRead (listed (now (many .entry)) (now (one .entry)) w most refusal (drop (self .at) (now (text .entry))))
+            (now (text .entry)) w most (now (out .exit)) r ⌝ }
     {
         let line = self.count_line(text, many, 1, most, refusal);
         let Line::Read(n, _, c) = line else {
@@ -84,8 +83,7 @@ impl Cursor {
     // The transitions and the nodes, whose counts the answer carries, and nothing after the last line.
     fn lists(self, text: &[u8], transitions: &mut [u16], nodes: &mut [u16]) -> Line
         requires { ⌜ (mostTransitionNumbers ≤ length (now transitions)) × (mostNodeNumbers ≤ length (now nodes)) ⌝ }
-        ensures { λ r. ⌜ ((l : Labelled) → told (listsIn l (now (transitions .exit)) (now (nodes .exit))) (now (text .entry)) r
-            ≡ listsText l (drop (self .at) (now (text .entry)))) ⌝ }
+        ensures { λ r. ⌜ ListsRead (now (text .entry)) (drop (self .at) (now (text .entry))) (now (transitions .exit)) (now (nodes .exit)) r ⌝ }
     {
         let first = self.listed(
             text,
@@ -132,8 +130,7 @@ pub(crate) fn read_tables(
 ) -> Read
     requires { ⌜ (mostLabels ≤ length (now labels)) × (mostStates ≤ length (now initial))
         × (mostTransitionNumbers ≤ length (now transitions)) × (mostNodeNumbers ≤ length (now nodes)) ⌝ }
-    ensures { λ r. ⌜ outcomeIn (now (labels .exit)) (now (initial .exit)) (now (transitions .exit)) (now (nodes .exit)) r
-        ≡ settled (modelText (now (text .entry))) ⌝ }
+    ensures { λ r. ⌜ TextRead (now (text .entry)) (now (labels .exit)) (now (initial .exit)) (now (transitions .exit)) (now (nodes .exit)) r ⌝ }
 {
     let start = Cursor { at: 0 };
     let first = start.labelled(text, labels, initial);

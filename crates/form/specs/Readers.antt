@@ -5,7 +5,7 @@ use mathlib.Core.List.{List, [], _∷_, _++_}
 use mathlib.Core.Bool.{Bool, cond, _&&_}
 use lib.ListN.{length}
 use lib.Dec.{ltb, leb, eqb}
-use Rattle.kripke.specs.Signs.{digits, lineFeed, stopBefore}
+use Rattle.values.specs.Signs.{digits, lineFeed, stopBefore}
 
 -- what reading comes to
 pub data Reading (A : Type 0) : Type 0 where

@@ -1,19 +1,19 @@
 -- A sign is read for its place and printed by it; a printed number reads back as itself, and a number that is read was printed so.
-use Prim.Native.Nat.{ℕ, zero, suc, _+_, _-_, _*_, _/_, _%_, _≤_, _<_}
+use Prim.Native.Nat.{ℕ, zero, suc, _+_, _*_, _/_, _%_, _≤_, _<_}
 use mathlib.Core.Path.{_≡_, refl, ap, sym, _∙_, subst}
 use mathlib.Core.List.{List, [], _∷_, _++_, append-assoc}
-use mathlib.Core.Bool.{Bool, true, false, cond}
+use mathlib.Core.Bool.{Bool, true, false}
 use native.Mathlib.Omega.{arith}
 use lib.ListN.{length}
 use lib.Dec.{ltb, eqb}
 use borrow.Author.Tests.{eq-eqb, ne-eqb, lt-ltb, le-ltb, le-leb, ltb-true, ltb-false, eqb-true}
 use Rattle.lists.specs.Entries.{at}
-use Rattle.kripke.proofs.Decimals.{cap, numeral-more}
-use Rattle.kripke.specs.Signs.{decimal, digits, numeral}
-use Rattle.text.specs.Readers.{placeOf, mayGrow, numberFrom, number}
-use Rattle.text.specs.Readers.Reading.{found}
-use Rattle.text.proofs.Steps.{grows}
-use Rattle.text.proofs.Readings.{found-same, ends-found, refused-found}
+use Rattle.values.proofs.Decimals.{cap, numeral-more}
+use Rattle.values.specs.Signs.{decimal, digits, numeral}
+use Rattle.form.specs.Readers.{placeOf, mayGrow, numberFrom, number}
+use Rattle.form.specs.Readers.Reading.{found}
+use Rattle.form.proofs.Steps.{grows}
+use Rattle.form.proofs.Readings.{found-same, ends-found, refused-found}
 
 -- no sign stands twice
 abbrev pub Apart : List ℕ → Type 0

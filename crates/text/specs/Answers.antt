@@ -1,14 +1,18 @@
 -- What `read_model` promises: its answer and all four tables, for every text and all tables.
 use Prim.Native.Nat.{ℕ}
 use mathlib.Core.Path.{_≡_}
-use mathlib.Core.List.{List, [], _∷_, _++_}
+use mathlib.Core.List.{List, [], _∷_}
 use mathlib.Core.Bool.{Bool, cond, _||_}
-use lib.ListN.{length, drop}
+use lib.ListN.{length}
 use lib.Dec.{ltb}
-use Rattle.kripke.specs.Limits.{mostStates, mostLabels, mostTransitionNumbers, mostNodeNumbers, mostText}
-use Rattle.text.specs.Readers.{Reading}
-use Rattle.text.specs.Readers.Reading.{found, ends, refused}
-use Rattle.text.specs.Form.{Model, modelText}
+use Rattle.lists.specs.Rows.{fill}
+use Rattle.values.specs.Limits.{mostStates, mostLabels, mostTransitionNumbers, mostNodeNumbers, mostText}
+use Rattle.kripke.specs.Transitions.{count}
+use Rattle.model.specs.Model.{Model, nodeCount}
+use Rattle.form.specs.Readers.{Reading}
+use Rattle.form.specs.Readers.Reading.{found, ends, refused}
+use Rattle.form.specs.Form.{modelText}
+use Rattle.form.specs.Print.{print, Printable}
 use Rattle.text.specs.declared.Read.{Read}
 use Rattle.text.specs.declared.Read.the-variants as read
 
@@ -67,18 +71,13 @@ numberDue (refusal n) = n
 
 -- and the values
 abbrev pub countsDue : Outcome → List ℕ
-countsDue (model m) = m .labelled .states ∷ m .labelled .atoms ∷ m .transitions .count ∷ m .nodes .count ∷ []
+countsDue (model m) = m .states ∷ m .atoms ∷ count (m .transitions) ∷ nodeCount (m .nodes) ∷ []
 countsDue (refusal n) = []
 
--- reading fills the front of a table; the rest stays
-abbrev pub filled : List ℕ → List ℕ → List ℕ
-filled xs before = xs ++ drop (length xs) before
-
--- the tables afterwards; a refusal changes none
+-- the tables afterwards: reading fills their fronts, and the rest stays; a refusal changes none
 abbrev pub tablesDue : Outcome → Tables → Tables
 tablesDue (model m) before =
-    tables (filled (m .labelled .labels) (before .labels)) (filled (m .labelled .initial) (before .initial))
-    (filled (m .transitions .numbers) (before .transitions)) (filled (m .nodes .numbers) (before .nodes))
+    tables (fill (m .labels) (before .labels)) (fill (m .initial) (before .initial)) (fill (m .transitions) (before .transitions)) (fill (m .nodes) (before .nodes))
 tablesDue (refusal n) before = before
 
 -- the promise: the answer and every table are what is due, whatever was lent and whatever the text
@@ -87,6 +86,20 @@ pub record ModelRead (text : List ℕ) (before after : Tables) (answer : Read) :
   pub counts : countsOf answer ≡ countsDue (outcome before text)
   pub lent : after ≡ tablesDue (outcome before text) before
 
+-- what an accepted text held: a printable model whose print it is, its counts in the answer and its tables in the fronts
+pub record Accepted (text : List ℕ) (before after : Tables) (s a e f : ℕ) : Type 0 where
+  pub held : Model
+  pub printed : text ≡ print held
+  pub printable : Printable held
+  pub counts : s ∷ a ∷ e ∷ f ∷ [] ≡ countsDue (model held)
+  pub lent : after ≡ tablesDue (model held) before
+
 -- the numbers of reading; it gives no other
 abbrev pub refusals : List ℕ
 refusals = 1 ∷ 2 ∷ 6 ∷ 10 ∷ 18 ∷ 19 ∷ 24 ∷ []
+
+-- a number that reading gives: for some text, with some tables
+pub record Occurs (n : ℕ) : Type 0 where
+  pub text : List ℕ
+  pub lent : Tables
+  pub comes : outcome lent text ≡ refusal n

@@ -6,9 +6,9 @@ use mathlib.Core.Bool.{Bool, true, false}
 use native.Mathlib.Omega.{arith}
 use lib.ListN.{length, take, drop, length-drop}
 use lib.Dec.{ltb}
-use Rattle.kripke.specs.Signs.{lineFeed}
-use Rattle.text.specs.Readers.{Reading, Reader, on, give, exactly, placeOf, symbol, symbols, rowLine}
-use Rattle.text.specs.Readers.Reading.{found, ends, refused}
+use Rattle.values.specs.Signs.{lineFeed}
+use Rattle.form.specs.Readers.{Reading, Reader, on, give, exactly, placeOf, symbol, symbols, rowLine}
+use Rattle.form.specs.Readers.Reading.{found, ends, refused}
 
 pub found-same : {A : Type 0} {a b : A} {s t : List ℕ} → found a s ≡ found b t → (a ≡ b) × (s ≡ t)
 found-same e = (cc, cc)
@@ -32,7 +32,7 @@ through ends k b rest e = absurd (ends-found e)
 through (refused n) k b rest e = absurd (refused-found e)
 
 -- bytes that were read exactly leave the text behind them
-pub exactly-some : (k : ℕ) (ks s rest : List ℕ) (u : Unit {0}) → exactly (k ∷ ks) s ≡ found u rest → 0 < length s
+exactly-some : (k : ℕ) (ks s rest : List ℕ) (u : Unit {0}) → exactly (k ∷ ks) s ≡ found u rest → 0 < length s
 unfolding exactly
 exactly-some k ks [] rest u e = absurd (ends-found e)
 exactly-some k ks (c ∷ s) rest u e = omega arith

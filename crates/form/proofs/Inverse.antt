@@ -1,23 +1,41 @@
 -- Readers that read exactly what a printer prints: how two of them go together, and each reader of a line.
-use Prim.Native.Nat.{ℕ, zero, suc, _+_, _≤_}
+use Prim.Native.Nat.{ℕ, zero, suc, _≤_}
 use mathlib.Core.Path.{_≡_, refl, ap, sym, _∙_, subst}
 use mathlib.Core.List.{List, [], _∷_, _++_, append-assoc, append-nil}
 use mathlib.Core.Bool.{Bool, true, false, cond, _&&_}
 use lib.Dec.{leb, eqb}
 use borrow.Author.Tests.{eq-eqb, le-leb, leb-true, eqb-true}
-use Rattle.lists.specs.Entries.{at}
-use Rattle.kripke.specs.Signs.{decimal, digits, lineFeed, stopBefore}
-use Rattle.text.specs.Readers.{Reading, Reader, on, give, exactly, placeOf, number, within, countLine}
-use Rattle.text.specs.Readers.Reading.{found, refused}
-use Rattle.text.specs.Print.{countPrint, Count}
-use Rattle.text.proofs.Steps.{both}
-use Rattle.text.proofs.Readings.{found-same, ends-found, refused-found, through}
-use Rattle.text.proofs.Decimal.{number-reads, number-back}
+use Rattle.lists.proofs.Tests.{and-parts}
+use Rattle.values.specs.Signs.{decimal, digits, lineFeed, stopBefore}
+use Rattle.form.specs.Readers.{Reader, on, give, exactly, placeOf, number, within, countLine}
+use Rattle.form.specs.Readers.Reading.{found, refused}
+use Rattle.form.specs.Print.{countPrint, Count}
+use Rattle.form.proofs.Readings.{found-same, ends-found, refused-found, through}
+use Rattle.form.proofs.Decimal.{number-reads, number-back}
 
 -- p reads what pr prints of a good value, whatever follows, and only that
 pub record Reads {A : Type 0} (p : Reader A) (pr : A → List ℕ) (Good : A → Type 0) : Type 0 where
   pub reads : (a : A) (t : List ℕ) → Good a → p (pr a ++ t) ≡ found a t
   pub back : (s : List ℕ) (a : A) (rest : List ℕ) → p s ≡ found a rest → (s ≡ pr a ++ rest) × Good a
+
+-- what was read, printed, and then the next reader
+pub then : {A B : Type 0} {p : Reader A} {pr : A → List ℕ} {G : A → Type 0} (r : Reads p pr G) (k : A → Reader B) (a : A) (t : List ℕ) → G a → on (p (pr a ++ t)) k ≡ k a t
+then r k a t g = ap (λ o. on o k) (r .reads a t g)
+
+-- a reading in two steps that found something: what the first one's text was, and the second after it
+pub record Past {A B : Type 0} (pr : A → List ℕ) (G : A → Type 0) (k : A → Reader B) (s : List ℕ) (b : B) (rest : List ℕ) : Type 0 where
+  pub value : A
+  pub left : List ℕ
+  pub text : s ≡ pr value ++ left
+  pub good : G value
+  pub next : k value left ≡ found b rest
+
+pub past : {A B : Type 0} {p : Reader A} {pr : A → List ℕ} {G : A → Type 0} (r : Reads p pr G) (k : A → Reader B) (s : List ℕ) (b : B) (rest : List ℕ)
+    → on (p s) k ≡ found b rest → Past pr G k s b rest
+past {p = p} r k s b rest e =
+    let x = through (p s) k b rest e in
+    let u = r .back s (x .value) (x .left) (x .first) in
+    record { value = x .value; left = x .left; text = u .0; good = u .1; next = x .then }
 
 -- one reader and then another, by a value that holds the first one's
 pub next : {A B : Type 0} (p : Reader A) (pr : A → List ℕ) (G : A → Type 0) (k : A → Reader B) (prk : A → B → List ℕ) (H : A → B → Type 0) (own : B → A)
@@ -27,16 +45,14 @@ next {A} {B} p pr G k prk H own r q mine = record { reads = there; back = again 
   where
     there : (b : B) (t : List ℕ) → G (own b) × H (own b) b → on (p ((pr (own b) ++ prk (own b) b) ++ t)) k ≡ found b t
     there b t g =
-        ap (λ (l : List ℕ). on (p l) k) (append-assoc (pr (own b)) (prk (own b) b) t)
-        ∙ ap (λ (o : Reading A). on o k) (r .reads (own b) (prk (own b) b ++ t) (g .0)) ∙ q (own b) .reads b t (g .1)
+        ap (λ (l : List ℕ). on (p l) k) (append-assoc (pr (own b)) (prk (own b) b) t) ∙ then r k (own b) (prk (own b) b ++ t) (g .0) ∙ q (own b) .reads b t (g .1)
 
     again : (s : List ℕ) (b : B) (rest : List ℕ) → on (p s) k ≡ found b rest → (s ≡ (pr (own b) ++ prk (own b) b) ++ rest) × (G (own b) × H (own b) b)
     again s b rest e =
-        let x = through (p s) k b rest e in
-        let u = r .back s (x .value) (x .left) (x .first) in
-        let w = q (x .value) .back (x .left) b rest (x .then) in
+        let x = past r k s b rest e in
+        let w = q (x .value) .back (x .left) b rest (x .next) in
         subst (λ (a : A). (s ≡ (pr a ++ prk a b) ++ rest) × (G a × H a b)) (sym (mine (x .value) b (w .1)))
-        (u .0 ∙ ap (λ (l : List ℕ). pr (x .value) ++ l) (w .0) ∙ sym (append-assoc (pr (x .value)) (prk (x .value) b) rest), (u .1, w .1))
+        (x .text ∙ ap (λ (l : List ℕ). pr (x .value) ++ l) (w .0) ∙ sym (append-assoc (pr (x .value)) (prk (x .value) b) rest), (x .good, w .1))
 
 -- nothing more, and the value
 pub given : {A : Type 0} (v : A) → Reads (give v) (λ b. []) (λ b. b ≡ v)
@@ -86,7 +102,7 @@ within-inverse least most refusal n = record { reads = there; back = λ s m rest
         → (s ≡ rest) × ((m ≡ n) × ((least ≤ n) × (n ≤ most)))
     again true f s m rest e =
         let p = found-same (simp f at e) in
-        let q = both (leb least n) (leb n most) f in
+        let q = and-parts (leb least n) (leb n most) f in
         (p .1, (sym (p .0), (leb-true least n (q .0), leb-true n most (q .1))))
     again false f s m rest e = absurd (refused-found (simp f at e))
 

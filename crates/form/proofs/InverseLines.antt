@@ -1,5 +1,5 @@
 -- Rows, lines of numbers and lines of one sort read exactly what is printed of them.
-use Prim.Native.Nat.{ℕ, zero, suc, _+_, _*_, _≤_}
+use Prim.Native.Nat.{ℕ, zero, suc, _*_, _≤_}
 use mathlib.Core.Path.{_≡_, refl, ap, sym, _∙_, subst}
 use mathlib.Core.List.{List, [], _∷_, _++_, map, append-assoc}
 use mathlib.Core.Bool.{Bool, true, false}
@@ -10,13 +10,13 @@ use lib.Seq.{length-take-le, take-at, drop-at}
 use lib.Dec.{ltb}
 use borrow.Author.Tests.{lt-ltb, ltb-true}
 use Rattle.lists.specs.Entries.{at, All}
-use Rattle.kripke.specs.Signs.{decimal, lineFeed, numbersPrint, stopBefore}
-use Rattle.text.specs.Readers.{Reader, on, give, exactly, placeOf, number, symbol, symbols, numbers, rowLine, numbersLine, lines}
-use Rattle.text.specs.Readers.Reading.{found}
-use Rattle.text.specs.Print.{rowPrint, linePrint, linesPrint, Values}
-use Rattle.text.proofs.Readings.{found-same, ends-found, refused-found, through}
-use Rattle.text.proofs.Decimal.{Apart, place-sign, sign-place, number-reads, number-back}
-use Rattle.text.proofs.Inverse.{Reads, next, given, said, exactly-inverse, stop-apart}
+use Rattle.values.specs.Signs.{decimal, lineFeed, numbersPrint, stopBefore}
+use Rattle.form.specs.Readers.{Reader, on, give, exactly, placeOf, number, symbol, symbols, numbers, rowLine, numbersLine, lines}
+use Rattle.form.specs.Readers.Reading.{found}
+use Rattle.form.specs.Print.{rowPrint, linePrint, linesPrint, Values}
+use Rattle.form.proofs.Readings.{found-same, ends-found, refused-found, through}
+use Rattle.form.proofs.Decimal.{Apart, place-sign, sign-place, number-reads, number-back}
+use Rattle.form.proofs.Inverse.{Reads, next, given, said, exactly-inverse, stop-apart}
 
 nil : (vs : List ℕ) → length vs ≡ 0 → vs ≡ []
 nil [] e = refl

@@ -1,8 +1,8 @@
--- The readers of specs/ at a place of the text: one step of each, by the test that the code makes there.
+-- The readers of specs/ at a place of the text: one step of each, by the test that is made there.
 use Prim.Native.Nat.{ℕ, suc, _+_, _-_, _*_, _≤_, _<_}
 use mathlib.Core.Path.{_≡_, refl, ap, sym}
 use mathlib.Core.List.{List, [], _∷_, _++_, append-assoc}
-use mathlib.Core.Bool.{Bool, true, false, _&&_, true≢false}
+use mathlib.Core.Bool.{true, false, _&&_}
 use native.Mathlib.Numerals.{add-one}
 use native.Mathlib.Omega.{arith}
 use lib.ListN.{length, drop, drop-of-length-le}
@@ -10,19 +10,13 @@ use lib.Seq.{drop-cons}
 use lib.Dec.{ltb, leb}
 use borrow.Author.Tests.{eq-eqb, ne-eqb, lt-ltb, le-ltb, ltb-true, leb-true}
 use Rattle.lists.specs.Entries.{at}
-use Rattle.kripke.specs.Signs.{digits}
-use Rattle.text.specs.Readers.{Reading, Reader, on, valued, exactly, placeOf, mayGrow, numberFrom, number, symbol, symbols, end}
-use Rattle.text.specs.Readers.Reading.{found, ends, refused}
-use Rattle.text.specs.Inside.{bare}
+use Rattle.lists.proofs.Tests.{and-parts}
+use Rattle.values.specs.Signs.{digits}
+use Rattle.form.specs.Readers.{Reading, Reader, on, valued, exactly, placeOf, mayGrow, numberFrom, number, symbol, symbols, end}
+use Rattle.form.specs.Readers.Reading.{found, ends, refused}
 
 pub here : (s : List ℕ) (i : ℕ) → i < length s → drop i s ≡ at s i ∷ drop (i + 1) s
 here s i h = rw (add-one, drop-cons s i 0)
-
--- a value made of a value
-pub bare-valued : {A B : Type 0} (f : A → B) (o : Reading A) → bare (valued f o) ≡ bare o
-bare-valued f (found a s) = refl
-bare-valued f ends = refl
-bare-valued f (refused n) = refl
 
 pub joined : (xs ys : List ℕ) (o : Reading (List ℕ)) → valued (λ zs. xs ++ zs) (valued (λ zs. ys ++ zs) o) ≡ valued (λ zs. (xs ++ ys) ++ zs) o
 joined xs ys (found zs s) = ap (λ (l : List ℕ). found l s) (sym (append-assoc xs ys zs))
@@ -64,10 +58,6 @@ module _ (signs : List ℕ) (b i : ℕ) where
   unfolding placeOf
   place-none h = rw (drop-of-length-le signs h)
 
-pub both : (a b : Bool) → (a && b) ≡ true → (a ≡ true) × (b ≡ true)
-both true b e = (refl, e)
-both false b e = absurd (true≢false (sym e))
-
 pub record Grows (n d : ℕ) : Type 0 where
   pub some : 0 < n
   pub digit : d < 10
@@ -76,8 +66,8 @@ pub record Grows (n d : ℕ) : Type 0 where
 pub grows : (n d : ℕ) → mayGrow n d ≡ true → Grows n d
 unfolding mayGrow
 grows n d e =
-    let p = both (ltb 0 n) (ltb d 10 && leb (n * 10 + d) 65535) e in
-    let q = both (ltb d 10) (leb (n * 10 + d) 65535) (p .1) in
+    let p = and-parts (ltb 0 n) (ltb d 10 && leb (n * 10 + d) 65535) e in
+    let q = and-parts (ltb d 10) (leb (n * 10 + d) 65535) (p .1) in
     record { some = ltb-true 0 n (p .0); digit = ltb-true d 10 (q .0); most = leb-true (n * 10 + d) 65535 (q .1) }
 
 module _ (stop n : ℕ) (s : List ℕ) (i : ℕ) where
@@ -112,26 +102,26 @@ module _ (stop : ℕ) (s : List ℕ) (i : ℕ) where
   number-on d h p g = rw (here s i h) (simp (number, ← p, lt-ltb _ _ g))
 
 module _ (signs : List ℕ) (n j : ℕ) (s : List ℕ) (i : ℕ) where
-  pub symbols-ends : j < n → length s ≤ i → bare (symbols signs (n - j) (drop i s)) ≡ ends
+  pub symbols-ends : j < n → length s ≤ i → symbols signs (n - j) (drop i s) ≡ ends
   unfolding symbols symbol
   symbols-ends b h =
       let e : n - j ≡ suc (n - (j + 1)) = omega arith in
       rw (e, drop-of-length-le s h)
 
-  pub symbols-broken : (v : ℕ) → j < n → i < length s → v ≡ placeOf signs (at s i) → length signs ≤ v → bare (symbols signs (n - j) (drop i s)) ≡ refused 19
+  pub symbols-broken : (v : ℕ) → j < n → i < length s → v ≡ placeOf signs (at s i) → length signs ≤ v → symbols signs (n - j) (drop i s) ≡ refused 19
   unfolding symbols symbol
   symbols-broken v b h p g =
       let e : n - j ≡ suc (n - (j + 1)) = omega arith in
       rw (e, here s i h) (simp (symbols, symbol, ← p, le-ltb _ _ g))
 
   pub symbols-on : (v : ℕ) → j < n → i < length s → v ≡ placeOf signs (at s i) → v < length signs
-      → bare (symbols signs (n - j) (drop i s)) ≡ bare (symbols signs (n - (j + 1)) (drop (i + 1) s))
+      → symbols signs (n - j) (drop i s) ≡ valued (λ vs. v ∷ vs) (symbols signs (n - (j + 1)) (drop (i + 1) s))
   unfolding symbols symbol
   symbols-on v b h p g =
       let e : n - j ≡ suc (n - (j + 1)) = omega arith in
-      rw (e, here s i h) (simp (symbols, symbol, ← p, lt-ltb _ _ g) (bare-valued (λ vs. v ∷ vs) (symbols signs (n - (j + 1)) (drop (i + 1) s))))
+      rw (e, here s i h) (simp (symbols, symbol, ← p, lt-ltb _ _ g))
 
-  pub symbols-done : n ≤ j → bare (symbols signs (n - j) (drop i s)) ≡ found tt (drop i s)
+  pub symbols-done : n ≤ j → symbols signs (n - j) (drop i s) ≡ found [] (drop i s)
   unfolding symbols
   symbols-done h =
       let e : n - j ≡ 0 = omega arith in

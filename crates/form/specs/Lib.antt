@@ -1,0 +1,4 @@
+pub mod Readers
+pub mod Form
+pub mod Print
+pub mod Longest
