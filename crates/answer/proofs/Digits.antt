@@ -6,8 +6,8 @@ use native.Mathlib.Omega.{arith}
 use lib.ListN.{length, length-append}
 use borrow.Author.Tests.{lt-ltb, le-ltb}
 use Rattle.lists.specs.Entries.{at}
-use Rattle.kripke.specs.Signs.{digits, numeral, decimal}
-use Rattle.kripke.proofs.Decimals.{numeral-more}
+use Rattle.values.specs.Signs.{digits, numeral, decimal}
+use Rattle.values.proofs.Decimals.{numeral-more}
 
 pub decimal-one : (n : ℕ) → n < 10 → decimal n ≡ at digits n ∷ []
 unfolding numeral

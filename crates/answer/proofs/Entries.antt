@@ -8,8 +8,8 @@ use native.Mathlib.Omega.{arith}
 use lib.ListN.{length, drop, length-append, length-drop}
 use lib.Seq.{drop-cons}
 use Rattle.lists.specs.Entries.{at}
-use Rattle.kripke.specs.Signs.{decimal, stopBefore, numbersPrint}
-use Rattle.kripke.proofs.Decimals.{decimal-short}
+use Rattle.values.specs.Signs.{decimal, stopBefore, numbersPrint}
+use Rattle.values.proofs.Decimals.{decimal-short}
 use Rattle.answer.specs.Inside.{Put}
 use Rattle.answer.proofs.Placed.{put-none, put-then}
 
@@ -50,23 +50,23 @@ entries-few [] = omega arith
 entries-few (n ∷ path) = omega (arith, entries-few path, decimal-short n, length-append (decimal n) (stopBefore (length path) ∷ numbersPrint path))
 
 -- i entries stand in the buffer, up to a place
-pub record Laid (path before now : List ℕ) (to place i : ℕ) : Type 0 where
+pub record EntriesPut (path before now : List ℕ) (to place i : ℕ) : Type 0 where
   pub bytes : List ℕ
   pub put : Put before now to place bytes
   pub whole : bytes ++ numbersPrint (drop i path) ≡ numbersPrint path
 
-pub laid-none : (path before : List ℕ) (to : ℕ) → Laid path before before to to 0
-laid-none path before to = record { bytes = []; put = put-none before to; whole = refl }
+pub entries-none : (path before : List ℕ) (to : ℕ) → to ≤ length before → EntriesPut path before before to to 0
+entries-none path before to h = record { bytes = []; put = put-none before to h; whole = refl }
 
 -- there is room for one more
-pub laid-room : (path before now : List ℕ) (to place i : ℕ) → i < length path → Laid path before now to place i
+pub entries-room : (path before now : List ℕ) (to place i : ℕ) → i < length path → EntriesPut path before now to place i
     → place + length (decimal (at path i)) + 1 ≤ to + length (numbersPrint path)
-laid-room path before now to place i h l =
+entries-room path before now to place i h l =
     omega (arith, l .put .ends, ap length (l .whole), length-append (l .bytes) (numbersPrint (drop i path)), ap length (step path i h), length-append (decimal (at path i)) (stopBefore (length path - (i + 1)) ∷ numbersPrint (drop (i + 1) path)))
 
-pub laid-more : {path before now then after : List ℕ} {to place behind next i stop : ℕ} → i < length path → Laid path before now to place i
-    → Put now then place behind (decimal (at path i)) → stop ≡ stopBefore (length path - (i + 1)) → Put then after behind next (stop ∷ []) → Laid path before after to next (i + 1)
-laid-more {path} {i = i} {stop = stop} h l digits e end =
+pub entries-more : {path before now then after : List ℕ} {to place behind next i stop : ℕ} → i < length path → EntriesPut path before now to place i
+    → Put now then place behind (decimal (at path i)) → stop ≡ stopBefore (length path - (i + 1)) → Put then after behind next (stop ∷ []) → EntriesPut path before after to next (i + 1)
+entries-more {path} {i = i} {stop = stop} h l digits e end =
     let tail = numbersPrint (drop (i + 1) path) in
     let d = decimal (at path i) in
     record {
@@ -75,7 +75,7 @@ laid-more {path} {i = i} {stop = stop} h l digits e end =
       whole = append-assoc (l .bytes) (d ++ (stop ∷ [])) tail ∙ ap (λ (x : List ℕ). l .bytes ++ x) (append-assoc d (stop ∷ []) tail ∙ ap (λ (k : ℕ). d ++ (k ∷ tail)) e ∙ sym (step path i h)) ∙ l .whole;
     }
 
-pub laid-all : (path before now : List ℕ) (to place i : ℕ) → length path ≤ i → Laid path before now to place i → Put before now to place (numbersPrint path)
-laid-all path before now to place i h l =
+pub entries-all : (path before now : List ℕ) (to place i : ℕ) → length path ≤ i → EntriesPut path before now to place i → Put before now to place (numbersPrint path)
+entries-all path before now to place i h l =
     let e : l .bytes ≡ numbersPrint path = sym (append-nil (l .bytes)) ∙ ap (λ (x : List ℕ). l .bytes ++ x) (sym (none-left path i h)) ∙ l .whole in
     rw e at (l .put)

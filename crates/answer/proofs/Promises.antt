@@ -6,8 +6,8 @@ use mathlib.Core.Bool.{Bool, true, false}
 use native.Mathlib.Omega.{arith}
 use lib.ListN.{length}
 use borrow.Author.Tests.{le-leb, lt-leb}
-use Rattle.answer.specs.Promise.{Due, lineIf, LineWritten}
-use Rattle.answer.specs.Promise.Due.{line}
+use Rattle.answer.specs.Answers.{Due, lineIf, LineWritten}
+use Rattle.answer.specs.Answers.Due.{line}
 use Rattle.answer.specs.Inside.{Put}
 use Rattle.answer.specs.declared.Written.{Written}
 use Rattle.answer.specs.declared.Written.the-variants.{Bytes, NoRoom, NoLine}

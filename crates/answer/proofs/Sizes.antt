@@ -11,15 +11,13 @@ use Rattle.lists.specs.Entries.{at}
 use Rattle.lists.specs.Rows.{tab}
 use Rattle.lists.proofs.Rows.{length-tab, tab-map, tab-same}
 use Rattle.lists.proofs.Tests.{and-both}
-use Rattle.kripke.specs.Limits.{mostStates}
-use Rattle.kripke.specs.Rows.{badRow, rowValues, valueAt}
-use Rattle.kripke.specs.Answers.{rowRead}
-use Rattle.kripke.specs.declared.rows.Row.{Row}
-use Rattle.kripke.proofs.StoredRows.{RowTaken}
-use Rattle.kripke.specs.Signs.{decimal, lineFeed, numbersPrint}
-use Rattle.kripke.proofs.Decimals.{decimal-short}
-use Rattle.answer.proofs.Entries.{entries-few}
-use Rattle.answer.specs.Lines.{letterOf, answerLine, rowLine, modelLine, pathLine, mostLine, mostPathLine}
+use Rattle.values.specs.Limits.{mostStates}
+use Rattle.values.specs.Rows.{badRow, rowValues, valueAt}
+use Rattle.values.specs.Answers.{rowRead}
+use Rattle.values.specs.declared.rows.Row.{Row}
+use Rattle.values.specs.Inside.{RowTaken}
+use Rattle.values.specs.Signs.{decimal, lineFeed, numbersPrint}
+use Rattle.answer.specs.Lines.{letterOf, answerLine, rowLine, modelLine, pathLine}
 
 pub answer-size : (n : ℕ) → length (answerLine n) ≡ length (decimal n) + 8
 unfolding answerLine
@@ -46,23 +44,9 @@ pub row-valid : (S : ℕ) (stored : List ℕ) (r : Row) (b : Bool) → r ≡ row
 unfolding rowRead
 row-valid S stored r b e v = ap (λ (x : Row). x .valid) (sym e) ∙ v
 
--- no line is longer than `mostLine`, so a buffer of so many bytes has room for each
-pub answer-fits : (n : ℕ) → length (answerLine n) ≤ mostLine
-answer-fits n = omega (arith, answer-size n, decimal-short n)
-
-pub row-fits : (S : ℕ) (stored : List ℕ) → S ≤ mostStates → length (rowLine (rowValues S stored)) ≤ mostLine
-row-fits S stored h = omega (arith, row-size S stored)
-
-pub model-fits : (v : ℕ) → length (modelLine v) ≤ mostLine
-model-fits v = omega (arith, model-size v)
-
 pub path-size : (path : List ℕ) → length (pathLine path) ≡ length (numbersPrint path) + 5
 unfolding pathLine
 path-size path = omega arith
-
--- and none of a path longer than `mostPathLine`
-pub path-fits : (path : List ℕ) → length path ≤ mostStates → length (pathLine path) ≤ mostPathLine
-path-fits path h = omega (arith, path-size path, entries-few path)
 
 -- whether a list has a line
 module _ (path : List ℕ) where

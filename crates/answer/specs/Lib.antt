@@ -1,3 +1,3 @@
 pub mod Lines
-pub mod Promise
+pub mod Answers
 pub mod Inside

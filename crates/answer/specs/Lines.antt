@@ -2,8 +2,8 @@
 use Prim.Native.Nat.{ℕ, _+_, _*_}
 use mathlib.Core.List.{List, [], _∷_, _++_, map}
 use Rattle.lists.specs.Entries.{at}
-use Rattle.kripke.specs.Limits.{mostStates}
-use Rattle.kripke.specs.Signs.{decimal, letters, lineFeed, numbersPrint}
+use Rattle.values.specs.Limits.{mostStates}
+use Rattle.values.specs.Signs.{decimal, letters, lineFeed, numbersPrint}
 
 -- answer= row= model= path=
 abbrev pub keyAnswer : List ℕ
@@ -38,10 +38,10 @@ modelLine v = keyModel ++ (letterOf v ∷ lineFeed ∷ [])
 unfoldable pub pathLine : List ℕ → List ℕ
 pathLine path = keyPath ++ numbersPrint path
 
--- the bytes of the longest line of a path: a state has five digits at the most
+-- the bytes of the longest line of a path: 5 for its key, and 6 for each state, five digits as in 65,535 and the comma or line feed behind them
 abbrev pub mostPathLine : ℕ
 mostPathLine = 6 * mostStates + 5
 
--- the bytes of the longest other line
+-- the bytes of the longest other line, that of a row: a letter for each state, and 5 for its key and the line feed
 abbrev pub mostLine : ℕ
 mostLine = mostStates + 5

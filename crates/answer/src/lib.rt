@@ -2,10 +2,10 @@
 //
 //   put   bytes, letters and digits, one behind the other
 //
-// specs/Lines says what a line is, specs/Promise what each call promises.
-use kripke::limits::MOST_STATES;
-use kripke::rows::read_row;
-use kripke::values::Verdict;
+// specs/Lines says what a line is, specs/Answers what each call promises.
+use values::limits::MOST_STATES;
+use values::rows::read_row;
+use values::verdict::Verdict;
 
 mod put;
 
@@ -17,13 +17,30 @@ use put::put_bytes;
 use put::put_decimal;
 use put::put_entries;
 use put::put_letters;
-ghost use Rattle.answer.specs.Promise.{numberDue, rowDue, modelDue, pathDue, LineWritten};
+ghost use mathlib.Core.Path.{_≡_};
+ghost use Rattle.answer.specs.Answers.{longestLines, numberDue, rowDue, modelDue, pathDue, LineWritten};
 
-// A buffer of so many bytes has room for the line of every path: a state has five digits at the most, and a comma or the line feed.
+// A buffer of so many bytes has room for the line of every path: path= takes five, a state five digits at the most and a comma or the line feed.
 pub const MOST_PATH_LINE: usize = 6 * MOST_STATES + 5;
 
-// And for every other line: the longest is row= with a letter a state.
+// And for every other line. The longest is that of a row: row= and the line feed take five, a state one letter.
 pub const MOST_LINE: usize = MOST_STATES + 5;
+
+// The bytes of the longest line of a path, and of the longest other line.
+pub struct Lengths {
+    pub line: usize,
+    pub path: usize,
+}
+
+// The two constants, which are those of specs/Lines.
+pub fn longest() -> Lengths
+    ensures { λ r. ⌜ r ≡ longestLines ⌝ }
+{
+    Lengths {
+        line: MOST_LINE,
+        path: MOST_PATH_LINE,
+    }
+}
 
 // What writing a line answers. Only `Bytes` changes the buffer.
 pub enum Written {

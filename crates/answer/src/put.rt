@@ -5,9 +5,9 @@ ghost use Prim.Native.Nat.{ℕ, _+_, _<_, _≤_};
 ghost use lib.ListN.{length};
 ghost use Rattle.lists.specs.Entries.{at};
 ghost use Rattle.lists.specs.Rows.{tab};
-ghost use Rattle.kripke.specs.Values.{top};
-ghost use Rattle.kripke.specs.Limits.{mostStates};
-ghost use Rattle.kripke.specs.Signs.{digits, decimal, numbersPrint};
+ghost use Rattle.values.specs.Values.{top};
+ghost use Rattle.values.specs.Limits.{mostStates};
+ghost use Rattle.values.specs.Signs.{digits, decimal, numbersPrint};
 ghost use Rattle.answer.specs.Lines.{letterOf};
 ghost use Rattle.answer.specs.Inside.{Put};
 
@@ -140,7 +140,7 @@ pub(crate) fn put_entries(path: &[u16], buffer: &mut [u8], to: usize) -> usize
     let mut i: usize = 0;
     while i < n {
         let behind = put_decimal(path[i], buffer, at);
-        at = put_byte(kripke::signs::stop_before(n - (i + 1)), buffer, behind);
+        at = put_byte(values::signs::stop_before(n - (i + 1)), buffer, behind);
         i += 1;
     }
     at

@@ -1,31 +1,32 @@
 -- A model that was read fits into the fronts of its tables, what was judged there is that model, and `judge_text` permits one answer.
 use Prim.Native.Nat.{ℕ, _*_, _≤_}
-use mathlib.Core.Path.{_≡_, refl, ap, sym, _∙_}
+use mathlib.Core.Path.{_≡_, refl, ap, sym, subst, _∙_}
 use mathlib.Core.List.{List, [], _∷_}
 use mathlib.Core.Bool.{false}
 use native.Mathlib.Omega.{arith}
-use native.Mathlib.Nat.{mul-comm}
-use lib.ListN.{length, take, drop, replicate, length-append, length-replicate}
+use lib.ListN.{length, take, drop, length-append}
 use lib.Seq.{take-at}
-use borrow.Author.Tests.{le-ltb}
-use Rattle.kripke.specs.Limits.{mostStates, mostLabels, mostTransitionNumbers, mostNodeNumbers}
+use Rattle.lists.specs.Rows.{fill}
+use Rattle.kripke.specs.Transitions.{count}
+use Rattle.model.specs.Labels.{labelCount}
+use Rattle.model.specs.Model.{Model, asModel, nodeCount}
+use Rattle.ctl.specs.Answers.{Judging}
 use Rattle.ctl.proofs.OneAnswer.{judging-one}
-use Rattle.text.specs.Form.{Model}
-use Rattle.text.specs.Print.{Printable}
-use Rattle.text.specs.Promise.{Tables, tables, Outcome, tooShort, anyShort, textOutcome, numberDue, countsDue, tablesDue, filled, ModelRead}
-use Rattle.text.specs.Promise.Outcome.{model, refusal}
+use Rattle.form.specs.Print.{Printable}
+use Rattle.text.specs.Answers.{Tables, Outcome, anyShort, textOutcome, numberDue, countsDue, tablesDue, ModelRead}
+use Rattle.text.specs.Answers.Outcome.{model, refusal}
 use Rattle.text.specs.declared.Read.{Read}
 use Rattle.text.specs.declared.Read.the-variants as read
 use Rattle.text.proofs.Promised.{read-print, read-comes, outcome-printable}
 use Rattle.sheet.specs.declared.Sheet.{Sheet}
-use Rattle.sheet.specs.Inside.{FrontsFit, FrontsJudged}
-use Rattle.sheet.specs.Judged.{refusedSheet, sheetOf, Judges, TextJudged}
+use Rattle.sheet.specs.Inside.{FrontsFit, FrontsJudged, fronts}
+use Rattle.sheet.specs.Answers.{refusedSheet, sheetOf, Judges, TextJudged}
 
 -- what fills the front of a table fits into it, and is found there
-front : (xs before table : List ℕ) (n : ℕ) → length xs ≡ n → table ≡ filled xs before → n ≤ length table
+front : (xs before table : List ℕ) (n : ℕ) → length xs ≡ n → table ≡ fill xs before → n ≤ length table
 front xs before table n e t = omega (arith, length-append xs (drop (length xs) before), ap length t)
 
-found-there : (xs before table : List ℕ) (n : ℕ) → length xs ≡ n → table ≡ filled xs before → take n table ≡ xs
+found-there : (xs before table : List ℕ) (n : ℕ) → length xs ≡ n → table ≡ fill xs before → take n table ≡ xs
 found-there xs before table n e t = ap (take n) t ∙ take-at xs (drop (length xs) before) n e
 
 pub fronts-fit : (text : List ℕ) (lent lent′ : Tables) (S A E N : ℕ) → ModelRead text lent lent′ (read.Model S A E N) → FrontsFit S A E N lent′
@@ -33,31 +34,17 @@ fronts-fit text lent lent′ S A E N p =
     let acc = read-print text lent lent′ S A E N p in
     let m = acc .held in
     let good = acc .printable in
-    let s : S ≡ m .labelled .states = cc (acc .counts) in
-    let a : A ≡ m .labelled .atoms = cc (acc .counts) in
-    let e : E ≡ m .transitions .count = cc (acc .counts) in
-    let n : N ≡ m .nodes .count = cc (acc .counts) in
-    let product : m .labelled .atoms * m .labelled .states ≡ S * A = mul-comm (m .labelled .atoms) (m .labelled .states) ∙ cc in
+    let s : S ≡ m .states = cc (acc .counts) in
+    let a : A ≡ m .atoms = cc (acc .counts) in
+    let e : E ≡ count (m .transitions) = cc (acc .counts) in
+    let n : N ≡ nodeCount (m .nodes) = cc (acc .counts) in
+    let product : labelCount m ≡ S * A = cc in
     record {
-      labels = front (m .labelled .labels) (lent .labels) (lent′ .labels) (S * A) (good .labelled .labels .size ∙ product) (ap (λ (t : Tables). t .labels) (acc .lent));
-      initial = front (m .labelled .initial) (lent .initial) (lent′ .initial) S (good .labelled .initial .size ∙ sym s) (ap (λ (t : Tables). t .initial) (acc .lent));
-      transitions = front (m .transitions .numbers) (lent .transitions) (lent′ .transitions) (2 * E) (good .transitions .numbers .size ∙ ap (λ (k : ℕ). 2 * k) (sym e)) (ap (λ (t : Tables). t .transitions) (acc .lent));
-      nodes = front (m .nodes .numbers) (lent .nodes) (lent′ .nodes) (3 * N) (good .nodes .numbers .size ∙ ap (λ (k : ℕ). 3 * k) (sym n)) (ap (λ (t : Tables). t .nodes) (acc .lent));
+      labels = front (m .labels) (lent .labels) (lent′ .labels) (S * A) (good .labels .size ∙ product) (ap (λ (t : Tables). t .labels) (acc .lent));
+      initial = front (m .initial) (lent .initial) (lent′ .initial) S (good .initial .size ∙ sym s) (ap (λ (t : Tables). t .initial) (acc .lent));
+      transitions = front (m .transitions) (lent .transitions) (lent′ .transitions) (2 * E) (good .transitions .numbers .size ∙ ap (λ (k : ℕ). 2 * k) (sym e)) (ap (λ (t : Tables). t .transitions) (acc .lent));
+      nodes = front (m .nodes) (lent .nodes) (lent′ .nodes) (3 * N) (good .nodes .numbers .size ∙ ap (λ (k : ℕ). 3 * k) (sym n)) (ap (λ (t : Tables). t .nodes) (acc .lent));
     }
-
--- the tables that `judge_text` reads into are long enough
-long-enough : (L I T N : List ℕ) → length L ≡ mostLabels → length I ≡ mostStates → length T ≡ mostTransitionNumbers → length N ≡ mostNodeNumbers → anyShort (tables L I T N) ≡ false
-unfolding tooShort
-long-enough L I T N l i t n =
-    rw (l, i, t, n, le-ltb mostLabels mostLabels (omega arith), le-ltb mostStates mostStates (omega arith), le-ltb mostTransitionNumbers mostTransitionNumbers (omega arith), le-ltb mostNodeNumbers mostNodeNumbers (omega arith))
-
-abbrev zeros : ℕ → List ℕ
-zeros n = replicate n 0
-
-pub own-long : anyShort (tables (zeros mostLabels) (zeros mostStates) (zeros mostTransitionNumbers) (zeros mostNodeNumbers)) ≡ false
-own-long =
-    let size : (n : ℕ) → length (zeros n) ≡ n = λ n. length-replicate {A = ℕ} n 0 in
-    long-enough (zeros mostLabels) (zeros mostStates) (zeros mostTransitionNumbers) (zeros mostNodeNumbers) (size mostLabels) (size mostStates) (size mostTransitionNumbers) (size mostNodeNumbers)
 
 -- by what the text comes to: a refusal is handed on
 refused-at : (o : Outcome) (before : List ℕ) (n : ℕ) (r : Sheet) → n ≡ numberDue o → [] ≡ countsDue o → r ≡ refusedSheet n → Judges o before before r
@@ -70,16 +57,17 @@ model-at : (o : Outcome) (lent lent′ : Tables) (S A E N : ℕ) (before after :
 model-at (refusal n) lent lent′ S A E N before after r good c l j = absurd (let z : _≡_ {A = ℕ} 0 1 = cc in omega arith)
 model-at (model m) lent lent′ S A E N before after r good c l j =
     let g = good m refl in
-    let s : S ≡ m .labelled .states = cc in
-    let a : A ≡ m .labelled .atoms = cc in
-    let e : E ≡ m .transitions .count = cc in
-    let n : N ≡ m .nodes .count = cc in
-    let product : m .labelled .atoms * m .labelled .states ≡ S * A = mul-comm (m .labelled .atoms) (m .labelled .states) ∙ cc in
-    let labels = found-there (m .labelled .labels) (lent .labels) (lent′ .labels) (S * A) (g .labelled .labels .size ∙ product) (ap (λ (t : Tables). t .labels) l) in
-    let initial = found-there (m .labelled .initial) (lent .initial) (lent′ .initial) S (g .labelled .initial .size ∙ sym s) (ap (λ (t : Tables). t .initial) l) in
-    let transitions = found-there (m .transitions .numbers) (lent .transitions) (lent′ .transitions) (2 * E) (g .transitions .numbers .size ∙ ap (λ (k : ℕ). 2 * k) (sym e)) (ap (λ (t : Tables). t .transitions) l) in
-    let nodes = found-there (m .nodes .numbers) (lent .nodes) (lent′ .nodes) (3 * N) (g .nodes .numbers .size ∙ ap (λ (k : ℕ). 3 * k) (sym n)) (ap (λ (t : Tables). t .nodes) l) in
-    record { answer = j .answer; judging = rw (labels, initial, transitions, nodes, s, a) at (j .judging); sheet = rw (s, n) at (j .sheet) }
+    let s : S ≡ m .states = cc in
+    let a : A ≡ m .atoms = cc in
+    let e : E ≡ count (m .transitions) = cc in
+    let n : N ≡ nodeCount (m .nodes) = cc in
+    let product : labelCount m ≡ S * A = cc in
+    let labels = found-there (m .labels) (lent .labels) (lent′ .labels) (S * A) (g .labels .size ∙ product) (ap (λ (t : Tables). t .labels) l) in
+    let initial = found-there (m .initial) (lent .initial) (lent′ .initial) S (g .initial .size ∙ sym s) (ap (λ (t : Tables). t .initial) l) in
+    let transitions = found-there (m .transitions) (lent .transitions) (lent′ .transitions) (2 * E) (g .transitions .numbers .size ∙ ap (λ (k : ℕ). 2 * k) (sym e)) (ap (λ (t : Tables). t .transitions) l) in
+    let nodes = found-there (m .nodes) (lent .nodes) (lent′ .nodes) (3 * N) (g .nodes .numbers .size ∙ ap (λ (k : ℕ). 3 * k) (sym n)) (ap (λ (t : Tables). t .nodes) l) in
+    let same : fronts S A E N lent′ ≡ m = λ i. asModel (s i) (a i) (labels i) (initial i) (transitions i) (nodes i) in
+    record { answer = j .answer; judging = subst (λ (x : Model). Judging x before after (j .answer)) same (j .judging); sheet = rw (s, n) at (j .sheet) }
 
 -- the promise at both of its ways out
 pub judged-refused : {text : List ℕ} {lent lent′ : Tables} (before : List ℕ) {answer : Read} {n : ℕ} {r : Sheet}
@@ -97,8 +85,8 @@ judged-model {text} {lent} {lent′} {before} {after} {answer} {S} {A} {E} {N} {
 -- any two permitted answers coincide, the verdict space too
 judges-one : (o : Outcome) (before after after′ : List ℕ) (r r′ : Sheet) → Judges o before after r → Judges o before after′ r′ → (r ≡ r′) × (after ≡ after′)
 judges-one (model m) before after after′ r r′ p q =
-    let same = judging-one _ _ _ _ _ _ _ _ _ _ _ (p .judging) (q .judging) in
-    (p .sheet ∙ ap (sheetOf (m .labelled .states) (m .nodes .count)) (same .0) ∙ sym (q .sheet), same .1)
+    let same = judging-one m before after after′ (p .answer) (q .answer) (p .judging) (q .judging) in
+    (p .sheet ∙ ap (sheetOf (m .states) (nodeCount (m .nodes))) (same .0) ∙ sym (q .sheet), same .1)
 judges-one (refusal n) before after after′ r r′ p q = (p .0 ∙ sym (q .0), p .1 ∙ sym (q .1))
 
 pub text-judged-one : (text before after after′ : List ℕ) (r r′ : Sheet) → TextJudged text before after r → TextJudged text before after′ r′ → (r ≡ r′) × (after ≡ after′)

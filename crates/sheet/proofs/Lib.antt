@@ -2,3 +2,4 @@ pub mod Fronts
 pub mod Output
 pub mod RowLines
 pub mod Meaning
+pub mod Numbers

@@ -8,14 +8,15 @@ use native.Mathlib.Nat.{add-zero, zero-add}
 use lib.ListN.{length}
 use lib.Dec.{leb}
 use borrow.Author.Tests.{eq-eqb, ne-eqb, leb-true}
-use Rattle.answer.specs.Promise.{Due, numberDue, modelDue, LineWritten}
-use Rattle.answer.specs.Promise.Due.{line, none}
+use Rattle.answer.specs.Answers.{Due, numberDue, modelDue, LineWritten}
+use Rattle.answer.specs.Answers.Due.{line, none}
 use Rattle.answer.specs.declared.Written.{Written}
 use Rattle.answer.specs.declared.Written.the-variants as written
 use Rattle.sheet.specs.declared.Sheet.{Sheet}
 use Rattle.sheet.specs.declared.Line.{Line}
 use Rattle.sheet.specs.declared.Line.the-variants as said
-use Rattle.sheet.specs.Output.{rowAt, rowsFrom, output, Place, lineAt, lineOf, LinePut}
+use Rattle.sheet.specs.Output.{rowAt, rowsFrom, output, Place, lineAt}
+use Rattle.sheet.specs.Answers.{lineOf, LinePut}
 use Rattle.sheet.specs.Output.Place.{here, past}
 
 -- among the rows, at the line behind them, and past that

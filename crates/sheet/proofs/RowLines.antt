@@ -8,13 +8,13 @@ use native.Mathlib.Nat.{mul-le-mul, mul-zero}
 use lib.ListN.{length, take, drop, length-take, length-drop}
 use lib.Dec.{leb}
 use borrow.Author.Tests.{lt-ltb, le-ltb, lt-leb, ne-eqb}
-use Rattle.kripke.specs.Limits.{mostStates, mostNodes}
-use Rattle.kripke.specs.Rows.{rowSize, rowBegin, badRow, rowValues}
-use Rattle.kripke.proofs.StoredRows.{row-size-within}
+use Rattle.values.specs.Limits.{mostStates, mostNodes}
+use Rattle.values.specs.Rows.{rowSize, rowBegin, rowIn, badRow, rowValues}
+use Rattle.values.proofs.StoredRows.{row-size-within}
 use Rattle.lists.proofs.Tests.{and-fails, or-left}
 use Rattle.answer.specs.Lines.{rowLine}
-use Rattle.answer.specs.Promise.{Due, lineIf, rowDue, LineWritten}
-use Rattle.answer.specs.Promise.Due.{none}
+use Rattle.answer.specs.Answers.{Due, lineIf, rowDue, LineWritten}
+use Rattle.answer.specs.Answers.Due.{none}
 use Rattle.answer.specs.declared.Written.the-variants as written
 use Rattle.sheet.specs.Output.{rowAt}
 
@@ -38,7 +38,7 @@ row-many S space k h m = rw (lt-ltb k mostNodes h) (no-row S _ (and-fails _ _ (l
 
 -- the part of the space that is lent as row k
 pub row-here : (S : ℕ) (space : List ℕ) (k size : ℕ) → k < mostNodes → size ≡ rowSize S → rowAt S space k ≡ rowDue S (take (k * size + size - k * size) (drop (k * size) space))
-unfolding rowAt rowBegin
+unfolding rowAt rowIn rowBegin
 row-here S space k size h e =
     let back : k * size + size - k * size ≡ rowSize S = omega arith in
     rw (lt-ltb k mostNodes h, back, e)

@@ -1,3 +1,3 @@
-pub mod Judged
 pub mod Output
+pub mod Answers
 pub mod Inside

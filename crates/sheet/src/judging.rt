@@ -1,10 +1,10 @@
 // The tables that were read, judged.
 use crate::Sheet;
 use ctl::Judged;
-use kripke::values::Verdict;
+use values::verdict::Verdict;
 ghost use mathlib.Core.Path.{_≡_};
-ghost use Rattle.text.specs.Promise.{tables};
-ghost use Rattle.sheet.specs.Judged.{refusedSheet, sheetOf};
+ghost use Rattle.text.specs.Answers.{tables};
+ghost use Rattle.sheet.specs.Answers.{refusedSheet, sheetOf};
 ghost use Rattle.sheet.specs.Inside.{FrontsFit, FrontsJudged};
 
 // The sheet of a refusal.

@@ -3,13 +3,13 @@
 //   judging   the tables that were read, judged
 //   lines     one line of the answer
 //
-// specs/Judged says what `judge_text` promises, specs/Output what `write_line` does.
-use kripke::limits::MOST_LABELS;
-use kripke::limits::MOST_NODE_NUMBERS;
-use kripke::limits::MOST_STATES;
-use kripke::limits::MOST_TRANSITION_NUMBERS;
-use kripke::values::Verdict;
+// specs/Answers says what the two calls promise, specs/Output what the whole answer is.
 use text::Read;
+use values::limits::MOST_LABELS;
+use values::limits::MOST_NODE_NUMBERS;
+use values::limits::MOST_STATES;
+use values::limits::MOST_TRANSITION_NUMBERS;
+use values::verdict::Verdict;
 
 mod judging;
 mod lines;
@@ -18,8 +18,8 @@ use judging::judge_fronts;
 use judging::refused;
 use lines::line_of;
 use lines::write_row_at;
-ghost use Rattle.sheet.specs.Judged.{TextJudged};
-ghost use Rattle.sheet.specs.Output.{output, lineAt, LinePut};
+ghost use Rattle.sheet.specs.Answers.{TextJudged, LinePut};
+ghost use Rattle.sheet.specs.Output.{output, lineAt};
 
 // What came of a text: 0 with the counts and the model's verdict, or the number of the refusal and zeros.
 pub struct Sheet {

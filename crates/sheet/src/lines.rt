@@ -1,11 +1,12 @@
 // One line of the answer.
 use crate::Line;
 use answer::Written;
-use kripke::limits::MOST_NODES;
-use kripke::limits::MOST_STATES;
+use values::limits::MOST_NODES;
+use values::limits::MOST_STATES;
 ghost use mathlib.Core.Path.{_≡_};
-ghost use Rattle.answer.specs.Promise.{LineWritten};
-ghost use Rattle.sheet.specs.Output.{rowAt, lineOf};
+ghost use Rattle.answer.specs.Answers.{LineWritten};
+ghost use Rattle.sheet.specs.Output.{rowAt};
+ghost use Rattle.sheet.specs.Answers.{lineOf};
 
 // What a writer's answer says of a line.
 pub(crate) fn line_of(answer: Written) -> Line
@@ -28,7 +29,7 @@ pub(crate) fn write_row_at(states: usize, verdicts: &[u8], k: usize, buffer: &mu
     if MOST_STATES < states {
         return Written::NoLine;
     }
-    let size = kripke::rows::row_size(states);
+    let size = values::rows::row_size(states);
     let begin = k * size;
     let end = begin + size;
     if verdicts.len() < end {

@@ -2,7 +2,7 @@
 use native.Mathlib.Omega.{arith}
 use Rattle.answer.specs.Lines.{answerLine}
 use Rattle.answer.proofs.Placed.{put-then}
-use Rattle.kripke.proofs.Decimals.{decimal-short}
+use Rattle.values.proofs.Decimals.{decimal-short}
 use Rattle.answer.proofs.Promises.{line-put, line-short}
 use Rattle.answer.proofs.Sizes.{answer-size}
 use borrow.Author.Needs.{needs}

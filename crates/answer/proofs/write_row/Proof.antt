@@ -2,7 +2,8 @@
 use native.Mathlib.Omega.{arith}
 use borrow.Author.Tests.{not-true, not-false}
 use Rattle.lists.proofs.Rows.{length-tab}
-use Rattle.kripke.proofs.StoredRows.{RowTaken, row-read, row-values-small}
+use Rattle.values.specs.Inside.{RowTaken}
+use Rattle.values.proofs.StoredRows.{row-read, row-values-small}
 use Rattle.answer.specs.Lines.{rowLine}
 use Rattle.answer.proofs.Placed.{put-then}
 use Rattle.answer.proofs.Promises.{line-put, line-short, line-none, line-some}

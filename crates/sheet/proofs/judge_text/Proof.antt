@@ -1,5 +1,6 @@
 -- `judge_text` meets its contract: a model that was read is judged in the fronts of its tables, and a refusal is handed on.
-use Rattle.sheet.proofs.Fronts.{fronts-fit, own-long, judged-refused, judged-model}
+use Rattle.sheet.proofs.Fronts.{fronts-fit, judged-refused, judged-model}
+use Rattle.text.proofs.Whole.{largest-long}
 use borrow.Author.Needs.{needs}
 use Rattle.sheet.proofs.judge_text.Statement.{statement}
 use Rattle.sheet.proofs.judge_text.Tie as tie
@@ -44,13 +45,13 @@ judge-fronts-requires : tie.Need-judge-fronts-requires
 judge-fronts-requires c κs = fronts-fit _ _ _ _ _ _ _ (rw (c .before .before .before .before .before .before .answer2 .given .1) at (c .before .before .before .before .before .before .before .before .before .before .before .before .read-model .ensures))
 
 returns : tie.Need-returns
-returns c = judged-refused _ own-long (c .before .before .before .before .before .before .before .before .read-model .ensures) (c .before .before .answer .given .1) (c .refused .ensures)
+returns c = judged-refused _ largest-long (c .before .before .before .before .before .before .before .before .read-model .ensures) (c .before .before .answer .given .1) (c .refused .ensures)
 
 same-length : tie.Need-same-length
 same-length c = search needs
 
 returns-2 : tie.Need-returns-2
-returns-2 c = judged-model own-long (c .before .before .before .before .before .before .before .before .before .before .before .before .before .before .before .read-model .ensures) (c .before .before .before .before .before .before .before .before .before .answer2 .given .1) (c .before .before .judge-fronts .ensures)
+returns-2 c = judged-model largest-long (c .before .before .before .before .before .before .before .before .before .before .before .before .before .before .before .read-model .ensures) (c .before .before .before .before .before .before .before .before .before .answer2 .given .1) (c .before .before .judge-fronts .ensures)
 
 pub judge-text-spec : {M : Type 1} → statement M
 judge-text-spec =

@@ -1,7 +1,6 @@
 -- `write_line` meets its contract: the line is found by tests on k, and written by its writer.
 use native.Mathlib.Omega.{arith}
 use Rattle.sheet.proofs.Output.{later, at-number, at-refusal, at-row, at-model, at-end, line-here, line-past}
-use Rattle.sheet.proofs.Output.{at-number, at-refusal, at-row, at-model, at-end, line-here, line-past}
 use borrow.Author.Needs.{needs}
 use Rattle.sheet.proofs.write_line.Statement.{statement}
 use Rattle.sheet.proofs.write_line.Tie as tie

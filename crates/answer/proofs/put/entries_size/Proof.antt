@@ -4,7 +4,7 @@ use Prim.Native.Nat.{_-_, _≤_}
 use native.Mathlib.Omega.{arith}
 use lib.ListN.{length}
 use Rattle.lists.specs.Entries.{at}
-use Rattle.kripke.proofs.Decimals.{decimal-short}
+use Rattle.values.proofs.Decimals.{decimal-short}
 use Rattle.answer.proofs.Entries.{Counted, counted-none, counted-more, counted-all}
 use borrow.Author.Needs.{needs}
 use Rattle.answer.proofs.put.entries_size.Statement.{statement}

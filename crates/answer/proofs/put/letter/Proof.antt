@@ -1,7 +1,7 @@
 -- `letter` meets its contract, value by value.
 use mathlib.Core.Path.{_≡_}
 use Prim.Native.Nat.{ℕ, _≤_}
-use Rattle.kripke.specs.Values.{top}
+use Rattle.values.specs.Values.{top}
 use native.Mathlib.Omega.{arith}
 use Rattle.answer.specs.Lines.{letterOf}
 use Rattle.answer.proofs.put.letter.Statement.{statement}

@@ -19,7 +19,7 @@ abbrev μ-loop : tie.MeasureT-loop
 μ-loop bytes buffer₀ to n i₀ buffer i = n - i
 
 loop-holds : tie.Need-loop-holds Inv-loop μ-loop
-loop-holds c = (omega arith, refl, put-first _ _ _)
+loop-holds c = (omega arith, refl, put-first _ _ _ (omega arith))
 
 shared-slice-read-buffer : tie.Need-shared-slice-read-buffer Inv-loop μ-loop
 shared-slice-read-buffer c = search needs

@@ -1,5 +1,5 @@
 -- `put_digit` meets its contract: the byte of a digit.
-use Rattle.kripke.proofs.Decimals.{digit-at}
+use Rattle.values.proofs.Decimals.{digit-at}
 use borrow.Author.Needs.{needs}
 use Rattle.answer.proofs.put.put_digit.Statement.{statement}
 use Rattle.answer.proofs.put.put_digit.Tie as tie

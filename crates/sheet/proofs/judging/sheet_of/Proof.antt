@@ -1,6 +1,6 @@
 -- `sheet_of` meets its contract, case by case.
 use mathlib.Core.Path.{ap, sym, _∙_}
-use Rattle.sheet.specs.Judged.{sheetOf}
+use Rattle.sheet.specs.Answers.{sheetOf}
 use borrow.Author.Needs.{needs}
 use Rattle.sheet.proofs.judging.sheet_of.Statement.{statement}
 use Rattle.sheet.proofs.judging.sheet_of.Tie as tie

@@ -1,6 +1,6 @@
 -- `line_of` meets its contract, case by case.
 use mathlib.Core.Path.{ap, sym}
-use Rattle.sheet.specs.Output.{lineOf}
+use Rattle.sheet.specs.Answers.{lineOf}
 use borrow.Author.Needs.{needs}
 use Rattle.sheet.proofs.lines.line_of.Statement.{statement}
 use Rattle.sheet.proofs.lines.line_of.Tie as tie

@@ -1,16 +1,22 @@
--- What the writers promise: the answer and the whole buffer, for every input.
+-- What the calls promise, for every input: how long a line can be, and of each writer the answer and the whole buffer.
 use Prim.Native.Nat.{ℕ}
 use mathlib.Core.Path.{_≡_}
-use mathlib.Core.List.{List, _++_}
+use mathlib.Core.List.{List}
 use mathlib.Core.Bool.{Bool, cond, not, _&&_}
-use lib.ListN.{length, drop}
+use lib.ListN.{length}
 use lib.Dec.{ltb, leb}
-use Rattle.kripke.specs.Values.{top}
-use Rattle.kripke.specs.Limits.{mostStates}
-use Rattle.kripke.specs.Rows.{badRow, rowValues}
-use Rattle.answer.specs.Lines.{answerLine, rowLine, modelLine, pathLine}
+use Rattle.lists.specs.Rows.{fillIf}
+use Rattle.values.specs.Values.{top}
+use Rattle.values.specs.Limits.{mostStates}
+use Rattle.values.specs.Rows.{badRow, rowValues}
+use Rattle.answer.specs.Lines.{answerLine, rowLine, modelLine, pathLine, mostLine, mostPathLine}
+use Rattle.answer.specs.declared.Lengths.{Lengths}
 use Rattle.answer.specs.declared.Written.{Written}
 use Rattle.answer.specs.declared.Written.the-variants.{Bytes, NoRoom, NoLine}
+
+-- `longest`: the bytes of the longest line of a path, and of the longest other line
+abbrev pub longestLines : Lengths
+longestLines = record { line = mostLine; path = mostPathLine }
 
 -- what is due: a line, or none
 pub data Due : Type 0 where
@@ -37,18 +43,14 @@ modelDue v = lineIf (leb v top) (modelLine v)
 abbrev pub pathDue : List ℕ → Due
 pathDue path = lineIf (ltb 0 (length path) && leb (length path) mostStates) (pathLine path)
 
--- a line has room in so many bytes
-abbrev pub fits : List ℕ → ℕ → Bool
-fits bytes room = leb (length bytes) room
-
 -- the answer: how many bytes the line has, or that it has no room, or that there is none
 abbrev pub answerDue : Due → ℕ → Written
-answerDue (line bytes) room = cond (fits bytes room) (Bytes (length bytes)) NoRoom
+answerDue (line bytes) room = cond (leb (length bytes) room) (Bytes (length bytes)) NoRoom
 answerDue none room = NoLine
 
 -- the buffer afterwards: the line at its front where it has room, and the rest as it was
 abbrev pub bufferDue : Due → List ℕ → List ℕ
-bufferDue (line bytes) before = cond (fits bytes (length before)) (bytes ++ drop (length bytes) before) before
+bufferDue (line bytes) before = fillIf bytes before
 bufferDue none before = before
 
 -- the promise of each writer
