@@ -1,3 +1,4 @@
+pub mod Accepted
 pub mod Refusals
 pub mod Verdicts
 pub mod Meaning

@@ -1,15 +1,32 @@
 -- Demand 1 for judging: the refusal leaves the space, its number is the lowest that applies, and answers are one.
+use mathlib.Core.Path.{_≡_, sym, ap, _∙_, subst}
+use Prim.Native.Nat.{ℕ}
+use mathlib.Core.List.{List}
+use native.Mathlib.Omega.{arith}
 use lib.ListN.{length}
-use Rattle.ctl.specs.Answers.{numberOf}
+use Rattle.lists.specs.Causes.{Applies, Lowest}
+use Rattle.model.specs.Model.{Model}
+use Rattle.model.specs.Refusals.{judgeCauses}
+use Rattle.ctl.specs.Answers.{Judging, judgedAs, numberOf}
+use Rattle.ctl.specs.Rows.{modelVerdict}
+use Rattle.ctl.specs.declared.Judged.the-variants.{Refused}
 use Rattle.promises.specs.Refusals.{OneAnswer, RefusalKeeps, RefusalLowest}
-use Rattle.ctl.proofs.Lowest.{judge-given}
-use Rattle.ctl.proofs.OneAnswer.{judging-number, judging-one, judging-keeps}
+use Rattle.model.proofs.Lowest.{judge-lowest}
+use Rattle.ctl.proofs.OneAnswer.{judging-keeps, judging-number, judging-one}
+
+-- a refusal's number is not 0
+refused-some : (m : Model) (before after : List ℕ) (n : ℕ) → Judging m before after (Refused n) → numberOf (Refused n) ≡ 0 → ⊥
+unfolding judgedAs
+refused-some m before after n p z =
+    let e : Refused n ≡ judgedAs 0 (modelVerdict m) = p .answer ∙ ap (λ (x : ℕ). judgedAs x (modelVerdict m)) (sym (judging-number m before after (Refused n) p) ∙ z) in
+    let q : _≡_ {A = ℕ} 0 1 = cc in
+    omega arith
 
 pub refusalKeeps : RefusalKeeps
-refusalKeeps = judging-keeps
+refusalKeeps m before after n p = judging-keeps m before after (Refused n) p (refused-some m before after n p)
 
 pub refusalLowest : RefusalLowest
-refusalLowest S A labels initial es ns before after r p = judge-given S A labels initial ns (length before) es (numberOf r) .0 (judging-number S A labels initial es ns before after r p)
+refusalLowest m before after r p = subst (Lowest (Applies (judgeCauses m (length before)))) (sym (judging-number m before after r p)) (judge-lowest m (length before))
 
 pub oneAnswer : OneAnswer
 oneAnswer = judging-one

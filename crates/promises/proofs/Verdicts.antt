@@ -1,30 +1,104 @@
 -- Demand 2: the rows are the meaning, and one relational argument for each of range, settling and no-unknown.
 use mathlib.Core.Path.{_≡_, refl, sym, ap, _∙_, subst, subst₂}
-use Prim.Native.Nat.{ℕ, zero, suc, _*_, _-_, _≤_, _<_}
+use Prim.Native.Nat.{ℕ, zero, suc, _-_, _≤_, _<_}
 use mathlib.Core.List.{List}
 use mathlib.Core.Logic.{_⊎_, inl, inr, ⊎-elim}
 use native.Mathlib.Omega.{arith}
 use lib.ListN.{length, List·getD-eq-default}
-use Rattle.ctl.specs.Answers.{Judging, judgedAs, modelOf, numberOf}
-use Rattle.ctl.specs.Refusals.{judgeRefusal}
-use Rattle.ctl.specs.Rows.{modelVerdict, nodeCount, rowsOf, spaceWith, verdictAt}
-use Rattle.kripke.specs.Values.{top}
 use Rattle.lists.specs.Entries.{at}
-use Rattle.promises.specs.Verdicts.{BeyondStays, Completion, CompletionKeeps, InRange, NoUnknown, RowsAreTheMeaning, Settled, Settling, held}
-use Rattle.ctl.proofs.JudgeLaws.{held-beyond, held-value}
-use Rattle.ctl.proofs.OneAnswer.{judging-number}
+use Rattle.values.specs.Answers.{verdict}
+use Rattle.values.specs.Rows.{held, rowIn, rowValues, valueAt}
+use Rattle.values.specs.Values.{top}
+use Rattle.model.specs.Labels.{Labels, Settled, labelCount, withLabels}
+use Rattle.model.specs.Model.{Model, leftAt, nodeCount}
+use Rattle.ctl.specs.Rows.{modelVerdict, rowsOf, verdictAt}
+use Rattle.promises.specs.Verdicts.{AcceptedFits, BeyondStays, CompletionKeeps, CompletionsThere, InRange, NextReaches, NoUnknown, RowsAreTheMeaning, Settling, SettlingAccepted, SettlingKeeps, Stays, There, written}
+use Rattle.ctl.proofs.Held.{held-beyond, next-held}
 use Rattle.ctl.proofs.Related.{rows-related, small}
 use Rattle.ctl.proofs.Unknowns.{Known, UnknownOrSame, initial-known, initial-range, initial-settles, known-kleene, settling-kleene}
+use Rattle.kripke.proofs.Nexts.{next-reaches}
+use Rattle.kripke.proofs.Successors.{edge-state}
 use Rattle.lists.proofs.Numbers.{lt-or-le}
-use Rattle.ctl.specs.declared.Judged.{Judged}
+use Rattle.lists.proofs.Rows.{tab-at}
+use Rattle.model.proofs.Labels.{completion-settles, completions-there, labels-all, labels-there, settled-refusal}
+use Rattle.promises.proofs.Accepted.{accepted-verdict, answered, graph-there, number-none, rows-stand, written-value}
 
--- labels past the list's end are 0
-labels-all : (P : ℕ → Type 0) (n : ℕ) (labels : List ℕ) → length labels ≡ n → P 0 → ((i : ℕ) → i < n → P (at labels i)) → (i : ℕ) → P (at labels i)
-labels-all P n labels e z h i =
-    ⊎-elim (λ (l : i < n). h i l) (λ (l : n ≤ i). subst P (sym (List·getD-eq-default labels 0 {n = i} (omega arith))) z) (lt-or-le i n)
+-- values of the meaning stay within 0 to 2
+meaning-range : (m : Model) → Labels m → ((k s : ℕ) → verdictAt m k s ≤ top) × (modelVerdict m ≤ top)
+unfolding rowsOf verdictAt modelVerdict
+meaning-range m l = (rows-related (λ (a b : ℕ). a ≤ top) small m (m .labels) (labels-all (λ (v : ℕ). v ≤ top) m l (omega arith) (l .small)) (m .nodes) .here, initial-range (m .states) (m .initial) _)
 
--- two values up to 2 that are not 1, and that are both
-no-one : (v : ℕ) → v ≤ 2 → (v ≡ 1 → ⊥) → (v ≡ 0) ⊎ (v ≡ 2)
+pub inRange : InRange
+inRange m before after v p =
+    let r = meaning-range m (labels-there m (length before) (number-none m before after v p)) in
+    (omega (arith, answered m before after v p, r .1), λ k s t. omega (arith, written-value m before after v p k s t, r .0 k s))
+
+pub rowsAreTheMeaning : RowsAreTheMeaning
+rowsAreTheMeaning m before after v p = (answered m before after v p, written-value m before after v p)
+
+pub beyondStays : BeyondStays
+beyondStays m before after v p = held-beyond m before (number-none m before after v p) after (rows-stand m before after v p)
+
+pub acceptedFits : AcceptedFits
+acceptedFits m before after v p = (labels-there m (length before) (number-none m before after v p), graph-there m before after v p)
+
+-- what a row in the space has at a state is what is written there
+row-written : (m : Model) (after : List ℕ) (k s : ℕ) → s < m .states → at (rowValues (m .states) (rowIn (m .states) after k)) s ≡ written m after k s
+unfolding rowValues held
+row-written m after k s h = tab-at (valueAt (rowIn (m .states) after k)) (m .states) s h
+
+pub nextReaches : NextReaches
+nextReaches m before after v p k s level t four =
+    let S : ℕ = m .states in
+    let es : List ℕ = m .transitions in
+    let G = graph-there m before after v p in
+    let u = next-held m before (number-none m before after v p) after (rows-stand m before after v p) k s (t .node) (t .state) four in
+    let reaches = next-reaches S es G (rowValues S (rowIn S after (leftAt (m .nodes) k))) level s (t .state) in (
+      λ l. let w = reaches .0 (omega (arith, u .1)) in (w .0, w .1, omega (arith, w .2, row-written m after (leftAt (m .nodes) k) (w .0) (edge-state S es G s (w .0) (w .1)))),
+      λ w. omega (arith, u .1, reaches .1 (w .0, w .1, omega (arith, w .2, row-written m after (leftAt (m .nodes) k) (w .0) (edge-state S es G s (w .0) (w .1))))),
+    )
+
+-- labels of which some are settled, at every place
+settled-labels : (m m′ : Model) → Settled m m′ → (i : ℕ) → UnknownOrSame (at (m .labels) i) (at (m′ .labels) i)
+settled-labels m m′ d i =
+    ⊎-elim
+    (λ (l : i < labelCount m). record { low = d .first .small i l; low′ = d .second .small i (subst (λ (n : ℕ). i < n) same-count l); same = d .settles i l })
+    (λ (l : labelCount m ≤ i). subst₂ UnknownOrSame (sym (List·getD-eq-default (m .labels) 0 {n = i} (omega (arith, d .first .size)))) (sym (List·getD-eq-default (m′ .labels) 0 {n = i} (omega (arith, d .second .size, same-count)))) (record { low = omega arith; low′ = omega arith; same = inr refl }))
+    (lt-or-le i (labelCount m))
+  where
+    same-count : labelCount m ≡ labelCount m′
+    same-count = ap labelCount (sym (d .kept))
+
+other-labels : (m : Model) (labels′ : List ℕ) → ((i : ℕ) → UnknownOrSame (at (m .labels) i) (at labels′ i)) → ((k s : ℕ) → Stays (verdictAt m k s) (verdictAt (withLabels m labels′) k s)) × Stays (modelVerdict m) (modelVerdict (withLabels m labels′))
+unfolding rowsOf verdictAt modelVerdict
+other-labels m labels′ h =
+    let rows = rows-related UnknownOrSame settling-kleene m labels′ h (m .nodes) in
+    (λ k s. rows .here k s .same, initial-settles (m .states) (m .initial) _ _ (rows .here (nodeCount (m .nodes) - 1)))
+
+pub settling : Settling
+settling m m′ d = subst (λ (x : Model). ((k s : ℕ) → Stays (verdictAt m k s) (verdictAt x k s)) × Stays (modelVerdict m) (modelVerdict x)) (sym (d .kept)) (other-labels m (m′ .labels) (settled-labels m m′ d))
+
+pub settlingKeeps : SettlingKeeps
+settlingKeeps m m′ d before after before′ after′ v v′ p p′ =
+    let s = settling m m′ d in
+    (λ k st t. subst₂ Stays (sym (written-value m before after v p k st t)) (sym (written-value m′ before′ after′ v′ p′ k st (moved t))) (s .0 k st), subst₂ Stays (sym (answered m before after v p)) (sym (answered m′ before′ after′ v′ p′)) (s .1))
+  where
+    moved : {k st : ℕ} → There m k st → There m′ k st
+    moved {k} {st} t = record { node = subst (λ (x : Model). k < nodeCount (x .nodes)) (sym (d .kept)) (t .node); state = subst (λ (x : Model). st < x .states) (sym (d .kept)) (t .state) }
+
+pub settlingAccepted : SettlingAccepted
+settlingAccepted m before after v p m′ d after′ r q = (verdict (modelVerdict m′), accepted-verdict m′ before after′ r q (settled-refusal m m′ (length before) d ∙ number-none m before after v p))
+
+pub completionKeeps : CompletionKeeps
+completionKeeps m m′ c before after before′ after′ v v′ p p′ =
+    let d = settlingKeeps m m′ (completion-settles m m′ c) before after before′ after′ v v′ p p′ in
+    (λ k s t h. ⊎-elim (λ e. absurd (h e)) (λ e. sym e) (d .0 k s t), λ h. ⊎-elim (λ e. absurd (h e)) (λ e. sym e) (d .1))
+
+pub completionsThere : CompletionsThere
+completionsThere = (λ m before after v p chosen. completions-there m (labels-there m (length before) (number-none m before after v p)) chosen, completion-settles)
+
+-- without unknown labels no value of the meaning is unknown
+no-one : (v : ℕ) → v ≤ top → (v ≡ 1 → ⊥) → (v ≡ 0) ⊎ (v ≡ 2)
 no-one zero h n = inl refl
 no-one (suc zero) h n = absurd (n refl)
 no-one (suc (suc zero)) h n = inr refl
@@ -34,63 +108,13 @@ not-both : (v : ℕ) → (v ≡ 0) ⊎ (v ≡ 2) → v ≡ 1 → ⊥
 not-both v (inl z) e = omega arith
 not-both v (inr z) e = omega arith
 
--- labels of which some are settled, at every place
-settled-labels : (S A : ℕ) (labels labels′ : List ℕ) → Settled S A labels labels′ → (i : ℕ) → UnknownOrSame (at labels i) (at labels′ i)
-settled-labels S A labels labels′ d i =
-    ⊎-elim
-    (λ (l : i < S * A). record { low = d .first .small i l; low′ = d .second .small i l; same = d .settles i l })
-    (λ (l : S * A ≤ i). subst₂ UnknownOrSame (sym (List·getD-eq-default labels 0 {n = i} (omega (arith, d .first .size)))) (sym (List·getD-eq-default labels′ 0 {n = i} (omega (arith, d .second .size)))) (record { low = omega arith; low′ = omega arith; same = inr refl }))
-    (lt-or-le i (S * A))
-
--- a completion settles
-completion-settles : (S A : ℕ) (labels labels′ : List ℕ) → Completion S A labels labels′ → Settled S A labels labels′
-completion-settles S A labels labels′ c =
-    record {
-      first = c .first;
-      second = record { size = c .size; small = λ i l. ⊎-elim (λ (e : at labels i ≡ 1). ⊎-elim (λ (z : at labels′ i ≡ 0). omega arith) (λ (z : at labels′ i ≡ 2). omega arith) (c .unknown i l e)) (λ (n : at labels i ≡ 1 → ⊥). omega (arith, c .other i l n, c .first .small i l)) (one-or-not (at labels i)) };
-      settles = λ i l. ⊎-elim inl (λ (n : at labels i ≡ 1 → ⊥). inr (sym (c .other i l n))) (one-or-not (at labels i));
-    }
-  where
-    one-or-not : (v : ℕ) → (v ≡ 1) ⊎ (v ≡ 1 → ⊥)
-    one-or-not zero = inr (λ e. omega arith)
-    one-or-not (suc zero) = inl refl
-    one-or-not (suc (suc v)) = inr (λ e. omega arith)
-
-module _ (S A : ℕ) (labels initial es ns : List ℕ) where
-  accepted-number : (before after : List ℕ) (r : Judged) → Judging S A labels initial es ns before after r → numberOf r ≡ 0 → judgeRefusal S A labels initial es ns (length before) ≡ 0
-  accepted-number before after r p z = sym (judging-number S A labels initial es ns before after r p) ∙ z
-
-  rows-of-space : (before after : List ℕ) (r : Judged) → Judging S A labels initial es ns before after r → numberOf r ≡ 0 → after ≡ spaceWith (rowsOf (modelOf S A labels es) ns) before
-  rows-of-space before after r p z = p .space ∙ rw (accepted-number before after r p z)
-
-pub rowsAreTheMeaning : RowsAreTheMeaning
-unfolding held verdictAt
-rowsAreTheMeaning S A labels initial es ns before after r p z =
-    let n : judgeRefusal S A labels initial es ns (length before) ≡ 0 = accepted-number S A labels initial es ns before after r p z in
-    (p .answer ∙ ap (λ (x : ℕ). judgedAs x (modelVerdict (modelOf S A labels es) initial ns)) n, λ k s h l. held-value S A labels initial es ns before n after (rows-of-space S A labels initial es ns before after r p z) k s h l)
-
-pub beyondStays : BeyondStays
-beyondStays S A labels initial es ns before after r p z = held-beyond S A labels initial es ns before (accepted-number S A labels initial es ns before after r p z) after (rows-of-space S A labels initial es ns before after r p z)
-
-pub inRange : InRange
-unfolding verdictAt modelVerdict
-inRange S A labels initial es ns l =
-    let rows = rows-related (λ (a b : ℕ). a ≤ top) small S A es labels labels (labels-all (λ (v : ℕ). v ≤ 2) (S * A) labels (l .size) (omega arith) (l .small)) ns in
-    (rows .here, initial-range S initial _)
-
-pub settling : Settling
-unfolding verdictAt modelVerdict
-settling S A labels labels′ initial es ns d =
-    let rows = rows-related UnknownOrSame settling-kleene S A es labels labels′ (settled-labels S A labels labels′ d) ns in
-    (λ k s. rows .here k s .same, initial-settles S initial _ _ (rows .here (nodeCount ns - 1)))
-
-pub completionKeeps : CompletionKeeps
-completionKeeps S A labels labels′ initial es ns c =
-    let d = settling S A labels labels′ initial es ns (completion-settles S A labels labels′ c) in
-    (λ k s h. ⊎-elim (λ e. absurd (h e)) (λ e. sym e) (d .0 k s), λ h. ⊎-elim (λ e. absurd (h e)) (λ e. sym e) (d .1))
+meaning-known : (m : Model) → Labels m → ((i : ℕ) → i < labelCount m → at (m .labels) i ≡ 1 → ⊥) → ((k s : ℕ) → (verdictAt m k s ≡ 0) ⊎ (verdictAt m k s ≡ 2)) × ((modelVerdict m ≡ 0) ⊎ (modelVerdict m ≡ 2))
+unfolding rowsOf verdictAt modelVerdict
+meaning-known m l h =
+    let rows = rows-related Known known-kleene m (m .labels) (labels-all (λ (v : ℕ). (v ≡ 0) ⊎ (v ≡ 2)) m l (inl refl) (λ i k. no-one (at (m .labels) i) (l .small i k) (h i k))) (m .nodes) in
+    (rows .here, initial-known (m .states) (m .initial) _ (rows .here (nodeCount (m .nodes) - 1)))
 
 pub noUnknown : NoUnknown
-unfolding verdictAt modelVerdict
-noUnknown S A labels initial es ns l h =
-    let rows = rows-related Known known-kleene S A es labels labels (labels-all (λ (v : ℕ). (v ≡ 0) ⊎ (v ≡ 2)) (S * A) labels (l .size) (inl refl) (λ i k. no-one (at labels i) (l .small i k) (h i k))) ns in
-    (λ k s e. not-both _ (rows .here k s) e, λ e. not-both _ (initial-known S initial _ (rows .here (nodeCount ns - 1))) e)
+noUnknown m before after v p h =
+    let known = meaning-known m (labels-there m (length before) (number-none m before after v p)) h in
+    (λ k s t e. not-both _ (known .0 k s) (sym (written-value m before after v p k s t) ∙ e), λ e. not-both _ (known .1) (sym (answered m before after v p) ∙ e))

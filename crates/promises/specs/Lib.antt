@@ -1,3 +1,4 @@
+pub mod One
 pub mod Refusals
 pub mod Verdicts
 pub mod Meaning

@@ -1,58 +1,88 @@
--- Demand 2. What stands in the verdict space is the three-valued meaning, and it survives every completion of the unknown labels.
+-- Demand 2. What `judge` writes is the three-valued meaning, and it survives every completion of the unknown labels. A model is accepted where
+-- the answer is `Verdicts v`; `held S after k s` is then the verdict that stands in the space for node k at state s.
 use mathlib.Core.Path.{_≡_}
-use Prim.Native.Nat.{ℕ, _+_, _*_, _<_, _≤_}
+use Prim.Native.Nat.{ℕ, _<_, _≤_}
 use mathlib.Core.List.{List}
-use mathlib.Core.Logic.{_⊎_}
-use lib.ListN.{length, take, drop}
+use mathlib.Core.Bool.{Bool}
+use mathlib.Core.Logic.{_⊎_, _↔_}
+use lib.ListN.{drop}
 use Rattle.lists.specs.Entries.{at}
-use Rattle.kripke.specs.Rows.{rowSize, rowBegin, valueAt}
+use Rattle.values.specs.Values.{top}
+use Rattle.values.specs.Rows.{rowBegin, held}
+use Rattle.values.specs.declared.verdict.Verdict.{Verdict}
+use Rattle.kripke.specs.Transitions.{Edge, Graph}
+use Rattle.model.specs.Model.{Model, nodeCount, kindAt, leftAt}
+use Rattle.model.specs.Labels.{Labels, Settled, Completion, completed, labelCount}
+use Rattle.ctl.specs.Rows.{verdictAt, modelVerdict}
+use Rattle.ctl.specs.Answers.{Judging}
 use Rattle.ctl.specs.declared.Judged.{Judged}
-use Rattle.ctl.specs.Rows.{nodeCount, verdictAt, modelVerdict}
-use Rattle.ctl.specs.Answers.{Judging, numberOf, modelOf, judgedAs}
+use Rattle.ctl.specs.declared.Judged.the-variants.{Verdicts}
 
--- the verdict that a space holds for node k at a state
-unfoldable pub held : ℕ → List ℕ → ℕ → ℕ → ℕ
-held S space k s = valueAt (take (rowSize S) (drop (rowBegin S k) space)) s
+-- k is a node of the model and s a state of it
+pub record There (m : Model) (k s : ℕ) : Type 0 where
+  pub node : k < nodeCount (m .nodes)
+  pub state : s < m .states
 
--- "For every state and every formula the verdict is true, false or unknown, exactly as the three-valued meaning of CTL over partial
--- Kripke structures defines it." The meaning of node k at s is `verdictAt`, and the model's is `modelVerdict`.
+-- what `judge` wrote for node k at state s
+abbrev pub written : Model → List ℕ → ℕ → ℕ → ℕ
+written m after k s = held (m .states) after k s
+
+-- this holds of all that `judge` leaves and answers where it accepts a model
+abbrev pub Accepting : (Model → List ℕ → List ℕ → Verdict → Type 0) → Type 0
+Accepting Holds = (m : Model) (before after : List ℕ) (v : Verdict) → Judging m before after (Verdicts v) → Holds m before after v
+
+-- "For every state and every formula the verdict is true, false or unknown,
+abbrev pub InRange : Type 0
+InRange = Accepting (λ m before after v. (v .0 ≤ top) × ((k s : ℕ) → There m k s → written m after k s ≤ top))
+
+-- exactly as the three-valued meaning of CTL over partial Kripke structures defines it." Node k means `verdictAt` at s, the model `modelVerdict`.
 abbrev pub RowsAreTheMeaning : Type 0
-RowsAreTheMeaning = (S A : ℕ) (labels initial es ns before after : List ℕ) (r : Judged) → Judging S A labels initial es ns before after r → numberOf r ≡ 0 → (r ≡ judgedAs 0 (modelVerdict (modelOf S A labels es) initial ns)) × ((k s : ℕ) → k < nodeCount ns → s < S → held S after k s ≡ verdictAt (modelOf S A labels es) ns k s)
+RowsAreTheMeaning = Accepting (λ m before after v. (v .0 ≡ modelVerdict m) × ((k s : ℕ) → There m k s → written m after k s ≡ verdictAt m k s))
 
 -- "Bytes beyond the last row stay."
 abbrev pub BeyondStays : Type 0
-BeyondStays = (S A : ℕ) (labels initial es ns before after : List ℕ) (r : Judged) → Judging S A labels initial es ns before after r → numberOf r ≡ 0 → drop (rowBegin S (nodeCount ns)) after ≡ drop (rowBegin S (nodeCount ns)) before
+BeyondStays = Accepting (λ m before after v. drop (rowBegin (m .states) (nodeCount (m .nodes))) after ≡ drop (rowBegin (m .states) (nodeCount (m .nodes))) before)
 
--- a list of labels: one for each state and atom, each at most 2
-pub record Labels (S A : ℕ) (labels : List ℕ) : Type 0 where
-  pub size : length labels ≡ S * A
-  pub small : (i : ℕ) → i < S * A → at labels i ≤ 2
+-- What is accepted is admissible: its labels are in range, and its transitions are a graph.
+abbrev pub AcceptedFits : Type 0
+AcceptedFits = Accepting (λ m before after v. Labels m × Graph (m .states) (m .transitions))
 
--- Values never leave 0 to 2.
-abbrev pub InRange : Type 0
-InRange = (S A : ℕ) (labels initial es ns : List ℕ) → Labels S A labels → ((k s : ℕ) → verdictAt (modelOf S A labels es) ns k s ≤ 2) × (modelVerdict (modelOf S A labels es) initial ns ≤ 2)
+-- EX reaches a level exactly if some transition leads to a state where its part does.
+abbrev pub NextReaches : Type 0
+NextReaches = Accepting (λ m before after v. (k s level : ℕ) → There m k s → kindAt (m .nodes) k ≡ 4
+    → (level ≤ written m after k s) ↔ ((t : ℕ) × Edge (m .transitions) s t × (level ≤ written m after (leftAt (m .nodes) k) t)))
 
--- the second list settles some unknown labels of the first and leaves the rest
-pub record Settled (S A : ℕ) (labels labels′ : List ℕ) : Type 0 where
-  pub first : Labels S A labels
-  pub second : Labels S A labels′
-  pub settles : (i : ℕ) → i < S * A → (at labels i ≡ 1) ⊎ (at labels i ≡ at labels′ i)
+-- unknown before, or the same afterwards
+abbrev pub Stays : ℕ → ℕ → Type 0
+Stays v v′ = (v ≡ 1) ⊎ (v ≡ v′)
 
--- Where labels are settled each verdict is unknown before, or stays.
+-- Where some unknown labels are settled, a verdict of the meaning is unknown before, or stays.
 abbrev pub Settling : Type 0
-Settling = (S A : ℕ) (labels labels′ initial es ns : List ℕ) → Settled S A labels labels′ → ((k s : ℕ) → (verdictAt (modelOf S A labels es) ns k s ≡ 1) ⊎ (verdictAt (modelOf S A labels es) ns k s ≡ verdictAt (modelOf S A labels′ es) ns k s)) × ((modelVerdict (modelOf S A labels es) initial ns ≡ 1) ⊎ (modelVerdict (modelOf S A labels es) initial ns ≡ modelVerdict (modelOf S A labels′ es) initial ns))
+Settling = (m m′ : Model) → Settled m m′ → ((k s : ℕ) → Stays (verdictAt m k s) (verdictAt m′ k s)) × Stays (modelVerdict m) (modelVerdict m′)
 
--- a completion changes each label 1 into 0 or 2 and nothing else
-pub record Completion (S A : ℕ) (labels labels′ : List ℕ) : Type 0 where
-  pub first : Labels S A labels
-  pub size : length labels′ ≡ S * A
-  pub unknown : (i : ℕ) → i < S * A → at labels i ≡ 1 → (at labels′ i ≡ 0) ⊎ (at labels′ i ≡ 2)
-  pub other : (i : ℕ) → i < S * A → (at labels i ≡ 1 → ⊥) → at labels′ i ≡ at labels i
+-- So is what two calls of `judge` wrote and answered, in whatever spaces;
+abbrev pub SettlingKeeps : Type 0
+SettlingKeeps =
+    (m m′ : Model) → Settled m m′ → (before after before′ after′ : List ℕ) (v v′ : Verdict)
+    → Judging m before after (Verdicts v) → Judging m′ before′ after′ (Verdicts v′)
+    → ((k s : ℕ) → There m k s → Stays (written m after k s) (written m′ after′ k s)) × Stays (v .0) (v′ .0)
+
+-- and the second call accepts wherever the first one does.
+abbrev pub SettlingAccepted : Type 0
+SettlingAccepted = Accepting (λ m before after v. (m′ : Model) → Settled m m′ → (after′ : List ℕ) (r : Judged) → Judging m′ before after′ r → (v′ : Verdict) × (r ≡ Verdicts v′))
 
 -- "A true or false stays so however the unknown labels turn out, each filled in with yes or no, the transitions kept."
 abbrev pub CompletionKeeps : Type 0
-CompletionKeeps = (S A : ℕ) (labels labels′ initial es ns : List ℕ) → Completion S A labels labels′ → ((k s : ℕ) → (verdictAt (modelOf S A labels es) ns k s ≡ 1 → ⊥) → verdictAt (modelOf S A labels′ es) ns k s ≡ verdictAt (modelOf S A labels es) ns k s) × ((modelVerdict (modelOf S A labels es) initial ns ≡ 1 → ⊥) → modelVerdict (modelOf S A labels′ es) initial ns ≡ modelVerdict (modelOf S A labels es) initial ns)
+CompletionKeeps =
+    (m m′ : Model) → Completion m m′ → (before after before′ after′ : List ℕ) (v v′ : Verdict)
+    → Judging m before after (Verdicts v) → Judging m′ before′ after′ (Verdicts v′)
+    → ((k s : ℕ) → There m k s → (written m after k s ≡ 1 → ⊥) → written m′ after′ k s ≡ written m after k s) × ((v .0 ≡ 1 → ⊥) → v′ .0 ≡ v .0)
+
+-- Every choice of yes or no for the unknown labels of an accepted model is a completion, and a completion settles labels.
+abbrev pub CompletionsThere : Type 0
+CompletionsThere = Accepting (λ m before after v. (chosen : ℕ → Bool) → Completion m (completed m chosen)) × ((m m′ : Model) → Completion m m′ → Settled m m′)
 
 -- "A model without unknown labels gets no unknown verdict."
 abbrev pub NoUnknown : Type 0
-NoUnknown = (S A : ℕ) (labels initial es ns : List ℕ) → Labels S A labels → ((i : ℕ) → i < S * A → at labels i ≡ 1 → ⊥) → ((k s : ℕ) → verdictAt (modelOf S A labels es) ns k s ≡ 1 → ⊥) × (modelVerdict (modelOf S A labels es) initial ns ≡ 1 → ⊥)
+NoUnknown = Accepting (λ m before after v. ((i : ℕ) → i < labelCount m → at (m .labels) i ≡ 1 → ⊥)
+    → ((k s : ℕ) → There m k s → written m after k s ≡ 1 → ⊥) × (v .0 ≡ 1 → ⊥))
