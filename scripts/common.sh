@@ -13,27 +13,10 @@ readable() { # FILE
     [ -r "$1" ] || die 2 "$1 can't be read"
 }
 
+# what a number means, in the words of the rules
 meaning() { # NUMBER
-    case $1 in
-        1) echo "there are no states, or too many" ;;
-        2) echo "there are too many atoms" ;;
-        3) echo "the labels are not one for each state and atom" ;;
-        4) echo "a label is above 2" ;;
-        5) echo "no state is initial: the line init= needs at least one 1" ;;
-        6) echo "there are no transitions, or too many" ;;
-        7) echo "an edge begins or ends at a state that there isn't: states are numbered from 0" ;;
-        8) echo "the edges aren't in strictly ascending order, by their first number and then by their second" ;;
-        9) echo "a state has no edge out: every state needs one, if only to itself" ;;
-        10) echo "there are no nodes, or too many" ;;
-        11) echo "a node has a kind that there isn't: kinds are 0 to 6" ;;
-        12) echo "a node names a node that isn't earlier or an atom that there isn't, or has a number it doesn't use that isn't 0" ;;
-        13) echo "the verdict space is too short" ;;
-        15) echo "there is no such state: states are numbered from 0" ;;
-        18) echo "the text is too long" ;;
-        19) echo "the text isn't in the form of a model" ;;
-        24) echo "a table is too short for the largest model" ;;
-        *) echo "the program gave a number that isn't in the table" ;;
-    esac
+    words=$(LC_ALL=C awk -F ' *[|] *' -v n="$1" '/^## /{ on = /Refusals/ } on && $2 == n { print $3 }' "$root/docs/RULES.md")
+    echo "${words:-the rules have no such number}"
 }
 
 # the first line of a text that is not the one due there, and what is due
@@ -107,7 +90,7 @@ prepare() {
 keep_model() { # FILE
     file=$1
     [ "$file" = - ] || [ ! -f "$file" ] || return 0
-    most_text=$(sed -n 's/^pub const MOST_TEXT: usize = \([0-9]*\);.*/\1/p' "$root/crates/kripke/src/limits.rt")
+    most_text=$(sed -n 's/^pub const MOST_TEXT: usize = \([0-9]*\);.*/\1/p' "$root/crates/values/src/limits.rt")
     [ "$file" = - ] || exec <"$file"
     file=$scratch/model
     head -c "$((most_text + 1))" >"$file"
