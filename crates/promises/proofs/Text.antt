@@ -1,5 +1,5 @@
 -- Demand 1 for text, cited from the crates that prove it.
-use Rattle.promises.specs.Text.{TextRefusalKeeps, TextNumber, TextNumbers, FormIsPrint, PrintIsRead, PrintFits, ReadIsPrint, OneReading, OneLine, LinesFit, LinesReach, OneSheet, OneSheetLine, SheetRefusal, SheetNumbers, SheetMeaning}
+use Rattle.promises.specs.Text.{TextRefusalKeeps, TextNumber, TextNumbers, FormIsPrint, PrintIsRead, PrintFits, ReadIsPrint, OneReading, OneLine, LinesFit, LinesReach, OneListing, OneSheet, OneSheetLine, SheetRefusal, SheetNumbers, SheetMeaning}
 use Rattle.form.proofs.Printed.{well-formed, formed-well}
 use Rattle.text.proofs.Promised.{refusal-leaves, print-read, read-print, one-answer}
 use Rattle.form.proofs.Longest.{longest-print}
@@ -7,6 +7,7 @@ use Rattle.text.proofs.Occurring.{each-number-occurs}
 use Rattle.text.proofs.Refusals.{only-these}
 use Rattle.answer.proofs.Bounds.{model-longest, number-longest, path-longest, path-reaches, row-longest, row-reaches}
 use Rattle.answer.proofs.Promises.{written-one}
+use Rattle.listing.proofs.Listing.{listed-one}
 use Rattle.sheet.proofs.Fronts.{text-judged-one}
 use Rattle.sheet.proofs.Output.{line-put-one}
 use Rattle.sheet.proofs.Numbers.{never-these}
@@ -50,6 +51,9 @@ oneSheet = text-judged-one
 
 pub oneSheetLine : OneSheetLine
 oneSheetLine = line-put-one
+
+pub oneListing : OneListing
+oneListing = listed-one
 
 pub sheetRefusal : SheetRefusal
 sheetRefusal text before after r p h = (text-keeps text before after r p h, refusal-shown r after h)

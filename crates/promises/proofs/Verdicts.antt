@@ -9,10 +9,10 @@ use Rattle.lists.specs.Entries.{at}
 use Rattle.values.specs.Answers.{verdict}
 use Rattle.values.specs.Rows.{held, rowIn, rowValues, valueAt}
 use Rattle.values.specs.Values.{top}
-use Rattle.model.specs.Labels.{Labels, Settled, labelCount, withLabels}
+use Rattle.model.specs.Labels.{Settled, labelCount, withLabels}
 use Rattle.model.specs.Model.{Model, leftAt, nodeCount}
 use Rattle.ctl.specs.Rows.{modelVerdict, rowsOf, verdictAt}
-use Rattle.promises.specs.Verdicts.{AcceptedFits, BeyondStays, CompletionKeeps, CompletionsThere, InRange, NextReaches, NoUnknown, RowsAreTheMeaning, Settling, SettlingAccepted, SettlingKeeps, Stays, There, written}
+use Rattle.promises.specs.Verdicts.{AcceptedFits, BeyondStays, CompletionKeeps, CompletionsThere, InRange, MeaningInRange, MeaningKnown, NextReaches, NoUnknown, RowsAreTheMeaning, Settling, SettlingAccepted, SettlingKeeps, Stays, There, written}
 use Rattle.ctl.proofs.Held.{held-beyond, next-held}
 use Rattle.ctl.proofs.Related.{rows-related, small}
 use Rattle.ctl.proofs.Unknowns.{Known, UnknownOrSame, initial-known, initial-range, initial-settles, known-kleene, settling-kleene}
@@ -23,14 +23,13 @@ use Rattle.lists.proofs.Rows.{tab-at}
 use Rattle.model.proofs.Labels.{completion-settles, completions-there, labels-all, labels-there, settled-refusal}
 use Rattle.promises.proofs.Accepted.{accepted-verdict, answered, graph-there, number-none, rows-stand, written-value}
 
--- values of the meaning stay within 0 to 2
-meaning-range : (m : Model) → Labels m → ((k s : ℕ) → verdictAt m k s ≤ top) × (modelVerdict m ≤ top)
+pub meaningInRange : MeaningInRange
 unfolding rowsOf verdictAt modelVerdict
-meaning-range m l = (rows-related (λ (a b : ℕ). a ≤ top) small m (m .labels) (labels-all (λ (v : ℕ). v ≤ top) m l (omega arith) (l .small)) (m .nodes) .here, initial-range (m .states) (m .initial) _)
+meaningInRange m l = (rows-related (λ (a b : ℕ). a ≤ top) small m (m .labels) (labels-all (λ (v : ℕ). v ≤ top) m l (omega arith) (l .small)) (m .nodes) .here, initial-range (m .states) (m .initial) _)
 
 pub inRange : InRange
 inRange m before after v p =
-    let r = meaning-range m (labels-there m (length before) (number-none m before after v p)) in
+    let r = meaningInRange m (labels-there m (length before) (number-none m before after v p)) in
     (omega (arith, answered m before after v p, r .1), λ k s t. omega (arith, written-value m before after v p k s t, r .0 k s))
 
 pub rowsAreTheMeaning : RowsAreTheMeaning
@@ -108,13 +107,13 @@ not-both : (v : ℕ) → (v ≡ 0) ⊎ (v ≡ 2) → v ≡ 1 → ⊥
 not-both v (inl z) e = omega arith
 not-both v (inr z) e = omega arith
 
-meaning-known : (m : Model) → Labels m → ((i : ℕ) → i < labelCount m → at (m .labels) i ≡ 1 → ⊥) → ((k s : ℕ) → (verdictAt m k s ≡ 0) ⊎ (verdictAt m k s ≡ 2)) × ((modelVerdict m ≡ 0) ⊎ (modelVerdict m ≡ 2))
+pub meaningKnown : MeaningKnown
 unfolding rowsOf verdictAt modelVerdict
-meaning-known m l h =
+meaningKnown m l h =
     let rows = rows-related Known known-kleene m (m .labels) (labels-all (λ (v : ℕ). (v ≡ 0) ⊎ (v ≡ 2)) m l (inl refl) (λ i k. no-one (at (m .labels) i) (l .small i k) (h i k))) (m .nodes) in
-    (rows .here, initial-known (m .states) (m .initial) _ (rows .here (nodeCount (m .nodes) - 1)))
+    (λ k s e. not-both _ (rows .here k s) e, λ e. not-both _ (initial-known (m .states) (m .initial) _ (rows .here (nodeCount (m .nodes) - 1))) e)
 
 pub noUnknown : NoUnknown
 noUnknown m before after v p h =
-    let known = meaning-known m (labels-there m (length before) (number-none m before after v p)) h in
-    (λ k s t e. not-both _ (known .0 k s) (sym (written-value m before after v p k s t) ∙ e), λ e. not-both _ (known .1) (sym (answered m before after v p) ∙ e))
+    let known = meaningKnown m (labels-there m (length before) (number-none m before after v p)) h in
+    (λ k s t e. known .0 k s (sym (written-value m before after v p k s t) ∙ e), λ e. known .1 (sym (answered m before after v p) ∙ e))

@@ -24,6 +24,10 @@ use Rattle.answer.specs.Answers.Due.{line}
 use Rattle.sheet.specs.Answers.{TextJudged, LinePut}
 use Rattle.sheet.specs.Output.{Place, output, whole}
 use Rattle.sheet.specs.declared.Sheet.{Sheet}
+use Rattle.paths.specs.Questions.{Question}
+use Rattle.listing.specs.Answers.{LineListed}
+use Rattle.listing.specs.declared.Call.{Call}
+use Rattle.listing.specs.declared.Listed.{Listed}
 use Rattle.promises.specs.One.{One}
 
 -- "A refusal changes nothing we lent": none of the four tables.
@@ -84,6 +88,12 @@ OneSheet = (text before : List ℕ) → One (TextJudged text before)
 
 abbrev pub OneSheetLine : Type 0
 OneSheetLine = (place : Place) (before : List ℕ) → One (LinePut place before)
+
+-- and so do those of a listing's line, the path space and the buffer.
+abbrev pub OneListing : Type 0
+OneListing =
+    (q : Question) (most : ℕ) (c : Call) (space a b buffer d e : List ℕ) (r s : Listed)
+    → LineListed q most c space a buffer d r → LineListed q most c space b buffer e s → (r ≡ s) × (a ≡ b) × (d ≡ e)
 
 -- "A refusal changes nothing we lent": judging a text, the verdict space stays, whether reading or judging refused it. The whole answer is
 -- one line then.

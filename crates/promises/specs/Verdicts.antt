@@ -82,7 +82,17 @@ CompletionKeeps =
 abbrev pub CompletionsThere : Type 0
 CompletionsThere = Accepting (λ m before after v. (chosen : ℕ → Bool) → Completion m (completed m chosen)) × ((m m′ : Model) → Completion m m′ → Settled m m′)
 
+-- no label is unknown
+abbrev pub Known : Model → Type 0
+Known m = (i : ℕ) → i < labelCount m → at (m .labels) i ≡ 1 → ⊥
+
 -- "A model without unknown labels gets no unknown verdict."
 abbrev pub NoUnknown : Type 0
-NoUnknown = Accepting (λ m before after v. ((i : ℕ) → i < labelCount m → at (m .labels) i ≡ 1 → ⊥)
-    → ((k s : ℕ) → There m k s → written m after k s ≡ 1 → ⊥) × (v .0 ≡ 1 → ⊥))
+NoUnknown = Accepting (λ m before after v. Known m → ((k s : ℕ) → There m k s → written m after k s ≡ 1 → ⊥) × (v .0 ≡ 1 → ⊥))
+
+-- Both hold of the meaning itself, for any labels in range, accepted or not.
+abbrev pub MeaningInRange : Type 0
+MeaningInRange = (m : Model) → Labels m → ((k s : ℕ) → verdictAt m k s ≤ top) × (modelVerdict m ≤ top)
+
+abbrev pub MeaningKnown : Type 0
+MeaningKnown = (m : Model) → Labels m → Known m → ((k s : ℕ) → verdictAt m k s ≡ 1 → ⊥) × (modelVerdict m ≡ 1 → ⊥)

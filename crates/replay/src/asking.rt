@@ -1,12 +1,13 @@
 // The path questions of a frame.
+use crate::numbers::ENTRIES;
 use crate::numbers::line_at;
-use crate::numbers::to_bytes;
+use crate::numbers::row_at;
 use crate::telling;
+use crate::telling::MOST_TOLD;
+use listing::Call;
 
-// The most numbers that a frame's lists have.
+// The most numbers that a frame's list of transitions has.
 const TRANSITION_NUMBERS: usize = 2100;
-
-const ENTRIES: usize = 300;
 
 // The first entries of a list, or none where it has fewer.
 fn numbers(list: &[u16], n: usize) -> &[u16] {
@@ -27,71 +28,52 @@ fn count(number: u16) -> usize {
     number as usize
 }
 
-fn level(number: u16) -> u8 {
-    (number % 256) as u8
-}
-
-// First, lent the first entries of a space.
-fn ask_first(head: &[u16; 4], transitions: &[u16], left: &[u8], right: &[u8], space: &mut [u16]) {
-    let room = count(head[3]);
-    if space.len() < room {
-        return;
-    }
-    telling::all_paths(
-        count(head[0]),
-        transitions,
-        left,
-        right,
-        level(head[1]),
-        count(head[2]),
-        &mut space[..room],
-    );
-}
-
-// Next, lent the first entries of a list.
-fn ask_next(
-    states: usize,
+// First and then Next until the end, or Next alone, or Check.
+fn ask(
+    kind: u8,
+    head: &[u16; 4],
     transitions: &[u16],
     left: &[u8],
     right: &[u8],
-    level: u8,
     n: usize,
     list: &mut [u16],
 ) {
-    if list.len() < n {
+    let states = count(head[0]);
+    let level = (head[1] % 256) as u8;
+    let mut call = Call::Next(n);
+    let mut lines: usize = 1;
+    if kind == b'F' {
+        call = Call::First {
+            start: count(head[2]),
+            room: count(head[3]),
+        };
+        lines = MOST_TOLD + 1;
+    } else if kind != b'N' {
+        telling::checked(states, transitions, left, right, level, numbers(list, n));
         return;
     }
-    telling::next_path(states, transitions, left, right, level, &mut list[..n]);
+    telling::list(states, transitions, left, right, level, call, lines, list);
 }
 
 // Lines: states, level, and for First start and room; transitions; left; right; and for Next and Check the list.
 pub(crate) fn question(body: &[u8], kind: u8) {
     let mut head = [0u16; 4];
     let mut transitions = [0u16; TRANSITION_NUMBERS];
-    let mut row = [0u16; ENTRIES];
-    let mut other = [0u16; ENTRIES];
     let mut left = [0u8; ENTRIES];
     let mut right = [0u8; ENTRIES];
     let mut list = [0u16; ENTRIES];
     let h = line_at(body, 2, &mut head);
     let t = line_at(body, h.next, &mut transitions);
-    let l = line_at(body, t.next, &mut row);
-    let r = line_at(body, l.next, &mut other);
+    let l = row_at(body, t.next, &mut left);
+    let r = row_at(body, l.next, &mut right);
     let p = line_at(body, r.next, &mut list);
-    to_bytes(&row, &mut left);
-    to_bytes(&other, &mut right);
-    let states = count(head[0]);
-    let at = level(head[1]);
-    let edges = numbers(&transitions, t.count);
-    let lefts = bytes(&left, l.count);
-    let rights = bytes(&right, r.count);
-    if kind == b'F' {
-        ask_first(&head, edges, lefts, rights, &mut list);
-        return;
-    }
-    if kind == b'N' {
-        ask_next(states, edges, lefts, rights, at, p.count, &mut list);
-        return;
-    }
-    telling::checked(states, edges, lefts, rights, at, numbers(&list, p.count));
+    ask(
+        kind,
+        &head,
+        numbers(&transitions, t.count),
+        bytes(&left, l.count),
+        bytes(&right, r.count),
+        p.count,
+        &mut list,
+    );
 }

@@ -11,45 +11,29 @@ mod asking;
 mod numbers;
 mod telling;
 
-use kripke::limits::MOST_NODES;
-use kripke::limits::MOST_STATES;
-use kripke::limits::MOST_VERDICTS;
+use answer::MOST_LINE;
 use libc::STDIN_FILENO;
 use libc::STDOUT_FILENO;
 use sheet::Line;
 use sheet::Sheet;
+use values::limits::MOST_NODES;
+use values::limits::MOST_VERDICTS;
 
-fn put(line: &[u8], n: usize) -> bool {
-    if line.len() < n {
-        return false;
-    }
-    io::write_all(STDOUT_FILENO, &line[..n])
-}
-
-// Line k of an answer; false where the last one came before.
-fn write_line(sheet: Sheet, verdicts: &[u8], k: usize) -> bool {
-    let mut line = [0u8; MOST_STATES + 16];
-    match sheet::write_line(sheet, verdicts, k, &mut line) {
-        Line::Bytes(n) => put(&line, n),
-        Line::End => false,
-        _ => io::write_all(STDOUT_FILENO, b"no line\n"),
-    }
-}
-
-fn write_lines(sheet: Sheet, verdicts: &[u8]) {
-    let mut k: usize = 0;
-    while k < MOST_NODES + 2 {
-        if !write_line(sheet, verdicts, k) {
+// The whole answer, up to its end: the number, a row a node, the model's verdict.
+fn write_answer(sheet: Sheet, verdicts: &[u8]) {
+    let mut line = [0u8; MOST_LINE];
+    for k in 0..MOST_NODES + 2 {
+        let Line::Bytes(n) = sheet::write_line(sheet, verdicts, k, &mut line) else {
             return;
-        }
-        k += 1;
+        };
+        io::write_all(STDOUT_FILENO, &line[..n]);
     }
 }
 
 fn model(text: &[u8]) {
     let mut verdicts = [0u8; MOST_VERDICTS];
     let sheet = sheet::judge_text(text, &mut verdicts);
-    write_lines(sheet, &verdicts);
+    write_answer(sheet, &verdicts);
 }
 
 fn answer(body: &[u8]) {
@@ -65,20 +49,6 @@ fn answer(body: &[u8]) {
     io::write_all(STDOUT_FILENO, b".\n");
 }
 
-fn read_and_answer(buffer: &mut [u8]) {
-    let got = io::read_full(STDIN_FILENO, buffer);
-    answer(&buffer[..got]);
-}
-
-// The frame's body, where the buffer is large enough for it.
-fn body(buffer: &mut [u8], n: usize) -> bool {
-    if buffer.len() < n {
-        return false;
-    }
-    read_and_answer(&mut buffer[..n]);
-    true
-}
-
 // One frame; false where there is none.
 fn turn() -> bool {
     let mut head = [0u8; 7];
@@ -88,7 +58,12 @@ fn turn() -> bool {
     }
     let n = numbers::of_digits(&head);
     let mut buffer = io::large_buffer();
-    body(&mut buffer, n)
+    if buffer.len() < n {
+        return false;
+    }
+    let got = io::read_full(STDIN_FILENO, &mut buffer[..n]);
+    answer(&buffer[..got]);
+    true
 }
 
 fn main() {

@@ -2,6 +2,9 @@
 ghost use Prim.Native.Nat.{_<_, _≤_};
 ghost use lib.ListN.{length};
 
+// The most numbers that a frame's rows and lists have.
+pub(crate) const ENTRIES: usize = 300;
+
 // A line of numbers, read: how many there are, and the place behind the line.
 pub(crate) struct Numbers {
     pub(crate) count: usize,
@@ -91,7 +94,7 @@ pub(crate) fn line_at(body: &[u8], at: usize, numbers: &mut [u16]) -> Numbers
 }
 
 // Numbers as bytes.
-pub(crate) fn to_bytes(numbers: &[u16], bytes: &mut [u8]) {
+fn to_bytes(numbers: &[u16], bytes: &mut [u8]) {
     let mut i: usize = 0;
     while i < numbers.len() {
         if bytes.len() <= i {
@@ -100,4 +103,12 @@ pub(crate) fn to_bytes(numbers: &[u16], bytes: &mut [u8]) {
         bytes[i] = (numbers[i] % 256) as u8;
         i += 1;
     }
+}
+
+// A line of numbers as bytes.
+pub(crate) fn row_at(body: &[u8], at: usize, bytes: &mut [u8]) -> Numbers {
+    let mut row = [0u16; ENTRIES];
+    let line = line_at(body, at, &mut row);
+    to_bytes(&row, bytes);
+    line
 }

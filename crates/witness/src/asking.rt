@@ -1,13 +1,15 @@
 // The question put to a model: its text is judged, and the rows are those of the node's own two parts.
-use crate::listing;
-use kripke::limits::MOST_LABELS;
-use kripke::limits::MOST_NODE_NUMBERS;
-use kripke::limits::MOST_NODES;
-use kripke::limits::MOST_STATES;
-use kripke::limits::MOST_TRANSITION_NUMBERS;
-use kripke::limits::MOST_TRANSITIONS;
-use kripke::limits::MOST_VERDICTS;
+use crate::telling;
+use answer::MOST_LINE;
+use libc::STDOUT_FILENO;
 use text::Read;
+use values::limits::MOST_LABELS;
+use values::limits::MOST_NODE_NUMBERS;
+use values::limits::MOST_NODES;
+use values::limits::MOST_STATES;
+use values::limits::MOST_TRANSITION_NUMBERS;
+use values::limits::MOST_TRANSITIONS;
+use values::limits::MOST_VERDICTS;
 
 // The kind of an exists-until.
 const EXISTS_UNTIL: u16 = 5;
@@ -20,7 +22,7 @@ fn row(states: usize, verdicts: &[u8], node: usize) -> &[u8] {
     if MOST_NODES <= node {
         return &verdicts[..0];
     }
-    let size = kripke::rows::row_size(states);
+    let size = values::rows::row_size(states);
     let begin = node * size;
     let end = begin + size;
     if verdicts.len() < end {
@@ -54,10 +56,13 @@ fn ask(
     most: usize,
 ) {
     if kind != EXISTS_UNTIL {
-        listing::put(b"no question: this node is no exists-until\n");
+        io::write_all(
+            STDOUT_FILENO,
+            b"no question: this node is no exists-until\n",
+        );
         return;
     }
-    listing::paths(
+    telling::list(
         states,
         transitions,
         row(states, verdicts, left as usize),
@@ -90,7 +95,7 @@ fn ask_node(text: &[u8], verdicts: &[u8], node: usize, start: usize, level: u8, 
         return;
     };
     if n <= node {
-        listing::put(b"no question: the model has no such node\n");
+        io::write_all(STDOUT_FILENO, b"no question: the model has no such node\n");
         return;
     }
     if MOST_NODES <= node {
@@ -114,7 +119,9 @@ pub(crate) fn answer(text: &[u8], node: usize, start: usize, level: u8, most: us
     let mut verdicts = [0u8; MOST_VERDICTS];
     let sheet = sheet::judge_text(text, &mut verdicts);
     if sheet.number != 0 {
-        listing::refused(sheet.number);
+        let mut line = [0u8; MOST_LINE];
+        let written = answer::write_number(sheet.number, &mut line);
+        telling::put(written, &line);
         return;
     }
     ask_node(text, &verdicts, node, start, level, most);

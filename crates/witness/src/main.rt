@@ -2,13 +2,14 @@
 //
 //   words     the question, from the arguments
 //   asking    the question put to a model that was judged
-//   listing   path after path, written as it comes
+//   telling   line after line, written out as it comes
 mod asking;
-mod listing;
+mod telling;
 mod words;
 
-use kripke::limits::MOST_TEXT;
 use libc::STDIN_FILENO;
+use libc::STDOUT_FILENO;
+use values::limits::MOST_TEXT;
 use words::Question;
 
 fn main() {
@@ -19,7 +20,8 @@ fn main() {
         most,
     } = words::asked()
     else {
-        listing::put(
+        io::write_all(
+            STDOUT_FILENO,
             b"no question: give a node, a state, true or possible, and at most how many paths if not all\n",
         );
         return;

@@ -22,18 +22,6 @@ const LONGEST: usize = 8;
 
 const GREATEST: usize = 65535;
 
-fn is_digit(byte: u8) -> bool {
-    if byte < b'0' {
-        return false;
-    }
-    byte <= b'9'
-}
-
-// A number and one more digit; five digits fit.
-fn with_digit(value: usize, byte: u8) -> usize {
-    value % 10000 * 10 + (byte % 16) as usize
-}
-
 // Decimal, up to 65535, no leading zeros, as in a model's text.
 fn read(word: &[u8]) -> Number {
     let n = word.len();
@@ -49,10 +37,14 @@ fn read(word: &[u8]) -> Number {
     let mut value: usize = 0;
     let mut i: usize = 0;
     while i < n {
-        if !is_digit(word[i]) {
+        let byte = word[i];
+        if byte < b'0' {
             return Number::None;
         }
-        value = with_digit(value, word[i]);
+        if b'9' < byte {
+            return Number::None;
+        }
+        value = value % 10000 * 10 + (byte - b'0') as usize;
         i += 1;
     }
     if GREATEST < value {

@@ -4,7 +4,7 @@ use Prim.Native.Nat.{_+_, _-_, _≤_}
 use native.Mathlib.Omega.{arith}
 use lib.ListN.{length}
 use lib.Seq.{length-take-le}
-use Rattle.kripke.specs.Limits.{mostNodes}
+use Rattle.values.specs.Limits.{mostNodes}
 use Rattle.answer.specs.Lines.{mostLine}
 use Rattle.sheet.proofs.Output.{line-within}
 use borrow.Author.Needs.{needs}

@@ -28,20 +28,23 @@ returns-4 c = search needs
 loop-holds : tie.Need-loop-holds Inv-loop μ-loop
 loop-holds c = search needs
 
-shared-slice-read-is-digit : tie.Need-shared-slice-read-is-digit Inv-loop μ-loop
-shared-slice-read-is-digit c = search needs
-
-is-digit-requires : tie.Need-is-digit-requires Inv-loop μ-loop
-is-digit-requires c κs = search needs
+shared-slice-read-byte : tie.Need-shared-slice-read-byte Inv-loop μ-loop
+shared-slice-read-byte c = search needs
 
 returns-5 : tie.Need-returns-5 Inv-loop μ-loop
 returns-5 c = search needs
 
-shared-slice-read-with-digit : tie.Need-shared-slice-read-with-digit Inv-loop μ-loop
-shared-slice-read-with-digit c = search needs
+returns-6 : tie.Need-returns-6 Inv-loop μ-loop
+returns-6 c = search needs
 
-with-digit-requires : tie.Need-with-digit-requires Inv-loop μ-loop
-with-digit-requires c κs = search needs
+mul-value : tie.Need-mul-value Inv-loop μ-loop
+mul-value c = search needs
+
+cast-value : tie.Need-cast-value Inv-loop μ-loop
+cast-value c = search needs
+
+add-value : tie.Need-add-value Inv-loop μ-loop
+add-value c = search needs
 
 add-i : tie.Need-add-i Inv-loop μ-loop
 add-i c = search needs
@@ -52,11 +55,11 @@ loop-less c = search needs
 loop-again : tie.Need-loop-again Inv-loop μ-loop
 loop-again c = search needs
 
-returns-6 : tie.Need-returns-6 Inv-loop μ-loop
-returns-6 c = search needs
-
 returns-7 : tie.Need-returns-7 Inv-loop μ-loop
 returns-7 c = search needs
+
+returns-8 : tie.Need-returns-8 Inv-loop μ-loop
+returns-8 c = search needs
 
 pub read-spec : {M : Type 1} → statement M
 read-spec =
@@ -70,13 +73,14 @@ read-spec =
     returns-3
     returns-4
     loop-holds
-    shared-slice-read-is-digit
-    is-digit-requires
+    shared-slice-read-byte
     returns-5
-    shared-slice-read-with-digit
-    with-digit-requires
+    returns-6
+    mul-value
+    cast-value
+    add-value
     add-i
     loop-less
     loop-again
-    returns-6
-    returns-7)
+    returns-7
+    returns-8)

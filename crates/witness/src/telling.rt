@@ -1,0 +1,57 @@
+// Lines written out as they come.
+use answer::MOST_PATH_LINE;
+use answer::Written;
+use libc::STDOUT_FILENO;
+use listing::Call;
+use listing::Told;
+use values::limits::MOST_STATES;
+
+// The bytes that a writer put at the front of a line.
+pub(crate) fn put(written: Written, line: &[u8]) {
+    let Written::Bytes(n) = written else {
+        return;
+    };
+    if n <= line.len() {
+        io::write_all(STDOUT_FILENO, &line[..n]);
+    }
+}
+
+// Path after path, as many as asked for, and how the listing ends.
+pub(crate) fn list(
+    states: usize,
+    transitions: &[u16],
+    left: &[u8],
+    right: &[u8],
+    level: u8,
+    start: usize,
+    most: usize,
+) {
+    let mut space = [0u16; MOST_STATES];
+    let mut line = [0u8; MOST_PATH_LINE];
+    let mut call = Call::First {
+        start,
+        room: MOST_STATES,
+    };
+    let mut rest = most;
+    loop {
+        let listed = listing::write_line(
+            states,
+            transitions,
+            left,
+            right,
+            level,
+            rest,
+            call,
+            &mut space,
+            &mut line,
+        );
+        let written = listed.line;
+        let told = listed.told;
+        put(written, &line);
+        let Told::Path(n) = told else {
+            return;
+        };
+        call = Call::Next(n);
+        rest -= 1;
+    }
+}
