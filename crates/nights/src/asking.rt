@@ -1,164 +1,188 @@
-// The path calls asked: the question of case 7 with one change.
+// The path calls asked and told.
 use crate::base;
-use crate::change;
-use crate::change::Call;
-use crate::change::Change;
-use crate::lending;
 use crate::lines;
+use crate::lines::CHECK;
+use crate::lines::FIRST;
+use crate::lines::LIST;
+use crate::lines::NEXT;
+use crate::lines::PATH_SPACE;
+use crate::lines::REST;
 use crate::spaces;
-use crate::spaces::PATTERN;
 use crate::spaces::PATTERN_NUMBER;
-use crate::telling;
-use kripke::limits::MOST_LABELS;
-use kripke::limits::MOST_NODE_NUMBERS;
-use kripke::limits::MOST_STATES;
-use kripke::limits::MOST_TRANSITION_NUMBERS;
+use answer::MOST_PATH_LINE;
+use answer::Written;
+use paths::CheckAnswer;
 use paths::FirstAnswer;
+use paths::NextAnswer;
+use values::limits::MOST_STATES;
+ghost use mathlib.Core.Path.{_≡_};
+ghost use lib.ListN.{length};
+ghost use Rattle.values.specs.Limits.{mostStates};
 
-// Which call is asked; First with a path space of so many entries, the others with a list of so many.
-pub(crate) enum Which {
-    First(usize),
-    Next(usize),
-    Check(usize),
+// What a call answered: a path of so many entries, a refusal's number, or else a word.
+struct Answer {
+    entries: usize,
+    number: u8,
+    word: usize,
 }
 
-// How long the path is that First found.
-fn length(answer: FirstAnswer) -> usize {
-    match answer {
-        FirstAnswer::Path(n) => n,
-        _ => 0,
-    }
-}
-
-// A call made on the path space or list and told, with what stood there before; how long the path is that First found.
-fn ask(
-    name: &[u8],
-    which: Which,
-    call: Call,
-    transitions: &[u16],
-    left: &[u8],
-    right: &[u8],
-    path: &mut [u16],
-    before: &[u16],
-) -> usize {
-    match which {
-        Which::First(n) => {
-            let answer = lending::first(call, transitions, left, right, n, path);
-            lines::case(b"first, ", name);
-            telling::first(answer, path, before);
-            length(answer)
-        }
-        Which::Next(n) => {
-            let answer = lending::next(call, transitions, left, right, n, path);
-            lines::case(b"next, ", name);
-            telling::next(answer, n, path, before);
-            0
-        }
-        Which::Check(n) => {
-            let list = spaces::numbers(before, n);
-            let answer = paths::check(call.states, transitions, left, right, call.level, list);
-            lines::case(b"check, ", name);
-            telling::check(answer);
-            0
-        }
-    }
-}
-
-// The four entries are the path space, or begin with the list.
-fn with_entries(
-    name: &[u8],
-    which: Which,
-    entries: [u16; 4],
-    call: Call,
-    transitions: &[u16],
-    left: &[u8],
-    right: &[u8],
-) {
-    let mut path = entries;
-    ask(
-        name,
-        which,
-        call,
-        transitions,
-        left,
-        right,
-        &mut path,
-        &entries,
-    );
-}
-
-// One call of the question with one change.
-pub(crate) fn asked(name: &[u8], which: Which, entries: [u16; 4], change: Change) {
-    let mut labels = [PATTERN; MOST_LABELS];
-    let mut initial = [PATTERN; MOST_STATES];
-    let mut transitions = [PATTERN_NUMBER; MOST_TRANSITION_NUMBERS + 2];
-    let mut nodes = [PATTERN_NUMBER; MOST_NODE_NUMBERS];
-    let mut left = [2u8, 2, 2, 0, PATTERN];
-    let mut right = [0u8, 0, 0, 2, PATTERN];
-    base::read(&mut labels, &mut initial, &mut transitions, &mut nodes);
-    change::enter(
-        change,
-        &mut labels,
-        &mut initial,
-        &mut transitions,
-        &mut nodes,
-    );
-    change::enter_rows(change, &mut left, &mut right);
-    let call = base::call().changed(change);
-    with_entries(
-        name,
-        which,
+fn told(entries: usize, number: u8, word: usize) -> Answer {
+    Answer {
         entries,
-        call,
-        spaces::numbers(&transitions, call.transitions),
-        spaces::bytes(&left, call.left),
-        spaces::bytes(&right, call.right),
-    );
+        number,
+        word,
+    }
 }
 
-// A change that each of the three calls refuses.
-pub(crate) fn all_three(name: &[u8], change: Change) {
-    let empty = [PATTERN_NUMBER; 4];
-    let path = [0u16, 1, 3, PATTERN_NUMBER];
-    asked(name, Which::First(4), empty, change);
-    asked(name, Which::Next(3), path, change);
-    asked(name, Which::Check(3), path, change);
+fn of_first(answer: FirstAnswer) -> Answer {
+    match answer {
+        FirstAnswer::Path(entries) => told(entries, 0, 0),
+        FirstAnswer::None => told(0, 0, 0),
+        FirstAnswer::Refused(number) => told(0, number, 0),
+    }
 }
 
-// First, and then Next and Check on the path that it found.
-pub(crate) fn in_turn(name: &[u8], call: Call, transitions: &[u16], left: &[u8], right: &[u8]) {
+fn of_next(answer: NextAnswer, entries: usize) -> Answer {
+    match answer {
+        NextAnswer::Path => told(entries, 0, 0),
+        NextAnswer::End => told(0, 0, 1),
+        NextAnswer::Refused(number) => told(0, number, 0),
+    }
+}
+
+fn of_check(answer: CheckAnswer) -> Answer {
+    match answer {
+        CheckAnswer::Yes => told(0, 0, 2),
+        CheckAnswer::No => told(0, 0, 3),
+        CheckAnswer::Refused(number) => told(0, number, 0),
+    }
+}
+
+// The line of a path, without its line feed.
+fn line(path: &[u16]) {
+    let mut buffer = [0u8; MOST_PATH_LINE];
+    match answer::write_path(path, &mut buffer) {
+        Written::Bytes(n) => {
+            if 0 < n {
+                lines::write(spaces::bytes(&buffer, n - 1))
+            }
+        }
+        _ => {}
+    }
+}
+
+// The answer, and whether the path space or the list stayed, or what is behind the path.
+fn tell(call: usize, name: &[u8], answer: Answer, path: &[u16], before: &[u16]) {
+    let n = answer.entries;
+    let same = spaces::numbers_kept(path, before, n);
+    let words = b"none|end|yes|no|\n|";
+    lines::case(call, name);
+    if 0 < n {
+        line(spaces::numbers(path, n));
+        lines::kept(REST, same);
+        return;
+    }
+    if answer.number != 0 {
+        lines::answer(answer.number);
+    } else {
+        lines::say(words, answer.word);
+    }
+    match call {
+        FIRST => lines::kept(PATH_SPACE, same),
+        NEXT => lines::kept(LIST, same),
+        _ => lines::say(words, 4),
+    }
+}
+
+// First, lent so many entries of a path space; the space afterwards.
+pub(crate) fn first(
+    name: &[u8],
+    states: usize,
+    transitions: &[u16],
+    left: &[u8],
+    right: &[u8],
+    level: u8,
+    start: usize,
+    room: usize,
+) -> [u16; MOST_STATES] {
+    let before = [PATTERN_NUMBER; MOST_STATES];
     let mut path = [PATTERN_NUMBER; MOST_STATES];
-    let empty = [PATTERN_NUMBER; MOST_STATES];
-    let most = Which::First(MOST_STATES);
-    let n = ask(
-        name,
-        most,
-        call,
+    let n = spaces::least(room, MOST_STATES);
+    let found = paths::first(
+        states,
         transitions,
         left,
         right,
-        &mut path,
-        &empty,
+        level,
+        start,
+        &mut path[..n],
     );
-    let found = path;
-    ask(
-        name,
-        Which::Next(n),
-        call,
-        transitions,
-        left,
-        right,
-        &mut path,
-        &found,
-    );
-    ask(
-        name,
-        Which::Check(n),
-        call,
-        transitions,
-        left,
-        right,
-        &mut path,
-        &found,
-    );
+    tell(FIRST, name, of_first(found), &path, &before);
+    path
+}
+
+// A path space with a list at its front.
+fn space(list: &[u16]) -> [u16; MOST_STATES]
+    ensures { λ r. ⌜ mostStates ≡ length r ⌝ }
+{
+    let mut path = [PATTERN_NUMBER; MOST_STATES];
+    let n = spaces::least(list.len(), MOST_STATES);
+    let mut i: usize = 0;
+    while i < n {
+        path[i] = list[i];
+        i += 1;
+    }
+    path
+}
+
+// Next, lent a list at the front of a space.
+pub(crate) fn next(
+    name: &[u8],
+    states: usize,
+    transitions: &[u16],
+    left: &[u8],
+    right: &[u8],
+    level: u8,
+    list: &[u16],
+) {
+    let before = space(list);
+    let mut path = before;
+    let n = spaces::least(list.len(), MOST_STATES);
+    let found = paths::next(states, transitions, left, right, level, &mut path[..n]);
+    tell(NEXT, name, of_next(found, n), &path, &before);
+}
+
+// Check, asked of a list.
+pub(crate) fn check(
+    name: &[u8],
+    states: usize,
+    transitions: &[u16],
+    left: &[u8],
+    right: &[u8],
+    level: u8,
+    list: &[u16],
+) {
+    let answer = paths::check(states, transitions, left, right, level, list);
+    tell(CHECK, name, of_check(answer), list, list);
+}
+
+// The question that numbers hold, asked.
+pub(crate) fn numbered(call: usize, name: &[u8], numbers: &[u16]) {
+    let all_left = base::bytes(numbers, b'P');
+    let all_right = base::bytes(numbers, b'Q');
+    let left = spaces::bytes(&all_left, base::one(numbers, b'P'));
+    let right = spaces::bytes(&all_right, base::one(numbers, b'Q'));
+    let states = base::one(numbers, b'S');
+    let level = (base::one(numbers, b'G') % 256) as u8;
+    let transitions = base::entries(numbers, b'T');
+    let list = base::entries(numbers, b'X');
+    match call {
+        FIRST => {
+            let start = base::one(numbers, b'B');
+            let room = base::one(numbers, b'R');
+            first(name, states, transitions, left, right, level, start, room);
+        }
+        NEXT => next(name, states, transitions, left, right, level, list),
+        _ => check(name, states, transitions, left, right, level, list),
+    }
 }

@@ -1,35 +1,89 @@
-// Judging asked: a night that is given whole, and the base model with a change or two.
+// Judging asked and told.
 use crate::base;
-use crate::change;
-use crate::change::Call;
-use crate::change::Change;
-use crate::lending;
 use crate::lines;
+use crate::lines::BOTH;
+use crate::lines::NIGHT;
+use crate::lines::REST;
+use crate::lines::TEXT;
+use crate::lines::VERDICT_SPACE;
 use crate::reading;
 use crate::spaces;
 use crate::spaces::PATTERN;
-use crate::spaces::PATTERN_NUMBER;
 use ctl::Judged;
-use kripke::limits::MOST_LABELS;
-use kripke::limits::MOST_NODE_NUMBERS;
-use kripke::limits::MOST_STATES;
-use kripke::limits::MOST_TRANSITION_NUMBERS;
-use kripke::limits::MOST_VERDICTS;
-use kripke::values::Verdict;
+use sheet::Line;
+use sheet::Sheet;
+use values::limits::MOST_NODES;
+use values::limits::MOST_STATES;
+use values::limits::MOST_VERDICTS;
+use values::verdict::Verdict;
 
-// The values of the last row, state by state, and the model's verdict.
-pub(crate) fn verdicts(states: usize, nodes: usize, verdicts: &[u8], model: Verdict) {
-    lines::word(b"row=");
-    if 0 < nodes {
-        lines::row(spaces::bytes_part(verdicts, nodes - 1, states));
+// What judging answered, as a text's answer would be.
+fn sheet_of(answer: Judged, states: usize, nodes: usize) -> Sheet {
+    match answer {
+        Judged::Verdicts(model) => Sheet {
+            number: 0,
+            states,
+            nodes,
+            model,
+        },
+        Judged::Refused(number) => Sheet {
+            number,
+            states: 0,
+            nodes: 0,
+            model: Verdict::FALSE,
+        },
     }
-    let one = [model.number()];
-    lines::word(b" model=");
-    lines::row(&one);
 }
 
-// One night: its name, the refusal or the last row, and the model's verdict.
-pub(crate) fn night(
+// Line k of an answer, without its line feed.
+fn line(sheet: Sheet, space: &[u8], k: usize) {
+    let mut buffer = [0u8; MOST_STATES + 16];
+    match sheet::write_line(sheet, space, k, &mut buffer) {
+        Line::Bytes(n) => {
+            if 0 < n {
+                lines::write(spaces::bytes(&buffer, n - 1))
+            }
+        }
+        _ => {}
+    }
+}
+
+// The refusal, or the last row and the model's verdict.
+fn tell(sheet: Sheet, space: &[u8]) {
+    if sheet.number != 0 {
+        lines::answer(sheet.number);
+        return;
+    }
+    let last = spaces::least(sheet.nodes, MOST_NODES);
+    line(sheet, space, last);
+    lines::write(b" ");
+    line(sheet, space, last + 1);
+}
+
+// What a call answered, and whether the verdict space stayed, or what is behind the rows.
+pub(crate) fn told(call: usize, name: &[u8], sheet: Sheet, refusal: u8, space: &[u8]) {
+    lines::case(call, name);
+    tell(sheet, space);
+    let words = b"\n| refusal=|";
+    if call == NIGHT {
+        lines::say(words, 0);
+        return;
+    }
+    if call != TEXT {
+        lines::count(words, 1, refusal as usize);
+    }
+    let end = spaces::parts(sheet.nodes, sheet.states);
+    let what = if sheet.number == 0 {
+        REST
+    } else {
+        VERDICT_SPACE
+    };
+    lines::kept(what, spaces::bytes_kept(space, end));
+}
+
+// The two public calls asked, judging with so much room.
+fn judged(
+    call: usize,
     name: &[u8],
     states: usize,
     atoms: usize,
@@ -37,9 +91,11 @@ pub(crate) fn night(
     initial: &[u8],
     transitions: &[u16],
     nodes: &[u16],
+    room: usize,
 ) {
     let mut space = [PATTERN; MOST_VERDICTS];
-    lines::case(b"", name);
+    let lent = spaces::least(room, MOST_VERDICTS);
+    let examined = model::examine(states, atoms, labels, initial, transitions, nodes, room);
     let answer = ctl::judge(
         states,
         atoms,
@@ -47,86 +103,63 @@ pub(crate) fn night(
         initial,
         transitions,
         nodes,
-        &mut space,
+        &mut space[..lent],
     );
-    match answer {
-        Judged::Verdicts(v) => verdicts(states, nodes.len() / 3, &space, v),
-        Judged::Refused(n) => lines::answer(b"answer=", n),
-    }
-    lines::word(b"\n");
+    let sheet = sheet_of(answer, states, nodes.len() / 3);
+    told(call, name, sheet, examined.refusal, &space);
 }
 
-// What judging answered, and whether the verdict space stayed, or what is behind the last row.
-fn tell(call: Call, answer: Judged, refusal: u8, space: &[u8]) {
-    let before = [PATTERN; MOST_VERDICTS];
-    match answer {
-        Judged::Verdicts(v) => {
-            let nodes = call.nodes / 3;
-            let end = spaces::begin(nodes, call.states);
-            verdicts(call.states, nodes, space, v);
-            lines::answer(b" refusal=", refusal);
-            lines::kept(b", rest", spaces::bytes_kept(space, &before, end));
-        }
-        Judged::Refused(n) => {
-            lines::answer(b"answer=", n);
-            lines::answer(b" refusal=", refusal);
-            lines::kept(b", verdict space", spaces::bytes_kept(space, &before, 0));
-        }
-    }
-}
-
-// The two public calls asked with the fronts of the tables.
-fn ask(name: &[u8], call: Call, labels: &[u8], initial: &[u8], transitions: &[u16], nodes: &[u16]) {
-    let mut space = [PATTERN; MOST_VERDICTS];
-    let l = spaces::bytes(labels, call.labels);
-    let i = spaces::bytes(initial, call.initial);
-    let t = spaces::numbers(transitions, call.transitions);
-    let n = spaces::numbers(nodes, call.nodes);
-    let refusal = ctl::refusal(call.states, call.atoms, l, i, t, n, call.verdicts);
-    let answer = lending::judge(call, l, i, t, n, &mut space);
-    lines::case(b"judge, ", name);
-    tell(call, answer, refusal, &space);
-}
-
-// A model judged, and printed as text and judged again.
-pub(crate) fn both(
+// A model judged with so much room, and, for both, printed as text and judged again.
+pub(crate) fn asked(
+    call: usize,
     name: &[u8],
-    call: Call,
+    states: usize,
+    atoms: usize,
     labels: &[u8],
     initial: &[u8],
     transitions: &[u16],
     nodes: &[u16],
+    room: usize,
 ) {
-    ask(name, call, labels, initial, transitions, nodes);
-    reading::printed(name, call, labels, initial, transitions, nodes);
-}
-
-// The base with two changes, judged, and printed as text where the text form has them.
-fn changed(name: &[u8], one: Change, two: Change, in_text: bool) {
-    let mut labels = [PATTERN; MOST_LABELS];
-    let mut initial = [PATTERN; MOST_STATES];
-    let mut transitions = [PATTERN_NUMBER; MOST_TRANSITION_NUMBERS + 2];
-    let mut nodes = [PATTERN_NUMBER; MOST_NODE_NUMBERS + 3];
-    base::read(&mut labels, &mut initial, &mut transitions, &mut nodes);
-    change::enter(one, &mut labels, &mut initial, &mut transitions, &mut nodes);
-    change::enter(two, &mut labels, &mut initial, &mut transitions, &mut nodes);
-    let call = base::call().changed(one).changed(two);
-    if in_text {
-        both(name, call, &labels, &initial, &transitions, &nodes);
-    } else {
-        ask(name, call, &labels, &initial, &transitions, &nodes);
+    judged(
+        call,
+        name,
+        states,
+        atoms,
+        labels,
+        initial,
+        transitions,
+        nodes,
+        room,
+    );
+    if call == BOTH {
+        reading::printed(
+            name,
+            states,
+            atoms,
+            labels,
+            initial,
+            transitions,
+            nodes,
+            room,
+        );
     }
 }
 
-pub(crate) fn judged(name: &[u8], change: Change) {
-    changed(name, change, Change::Nothing, false);
-}
-
-pub(crate) fn judged_and_read(name: &[u8], change: Change) {
-    changed(name, change, Change::Nothing, true);
-}
-
-// Two causes at once: the lower number is given.
-pub(crate) fn judged_twice(name: &[u8], one: Change, two: Change) {
-    changed(name, one, two, false);
+// The model that numbers hold, asked; a night has all the room there may be.
+pub(crate) fn numbered(call: usize, name: &[u8], numbers: &[u16]) {
+    let all_labels = base::bytes(numbers, b'L');
+    let all_initial = base::bytes(numbers, b'I');
+    let room = base::one(numbers, b'V');
+    asked(
+        call,
+        name,
+        base::one(numbers, b'S'),
+        base::one(numbers, b'A'),
+        spaces::bytes(&all_labels, base::one(numbers, b'L')),
+        spaces::bytes(&all_initial, base::one(numbers, b'I')),
+        base::entries(numbers, b'T'),
+        base::entries(numbers, b'N'),
+        if call == NIGHT { MOST_VERDICTS } else { room },
+    );
 }

@@ -1,39 +1,83 @@
-// As many states, atoms, transitions and nodes as there may be.
+// As many states, atoms, transitions and nodes as there may be, and no atom.
 use crate::asking;
-use crate::base;
+use crate::cases::run;
 use crate::judging;
-use crate::spaces::set_byte;
-use crate::spaces::set_number;
-use kripke::limits::MOST_ATOMS;
-use kripke::limits::MOST_NODE_NUMBERS;
-use kripke::limits::MOST_NODES;
-use kripke::limits::MOST_STATES;
-use kripke::limits::MOST_TRANSITION_NUMBERS;
-use kripke::limits::MOST_TRANSITIONS;
+use crate::lines::BOTH;
+use crate::lines::NIGHT;
+use crate::spaces;
+use values::limits::MOST_ATOMS;
+use values::limits::MOST_NODE_NUMBERS;
+use values::limits::MOST_STATES;
+use values::limits::MOST_TRANSITION_NUMBERS;
+use values::limits::MOST_VERDICTS;
+
+// The lists of numbers that are made here.
+const TRANSITIONS: usize = 0;
+
+const UNTILS: usize = 1;
+
+const CONJUNCTS: usize = 2;
 
 // Four transitions out of each state: to itself and the three next ones, the last states to the last four.
-fn end_of(k: usize) -> u16 {
-    let s = k / 4;
+fn transition(i: usize) -> usize {
+    let s = i / 8;
     let last = MOST_STATES - 4;
+    if i % 2 == 0 {
+        return s;
+    }
     if s < last {
-        return ((s + k % 4) % 65536) as u16;
+        s + i / 2 % 4
+    } else {
+        last + i / 2 % 4
     }
-    ((last + k % 4) % 65536) as u16
 }
 
-fn set_transition(transitions: &mut [u16], k: usize) {
-    if MOST_TRANSITIONS <= k {
-        return;
+// A number of an atom's node.
+fn atom(node: usize, place: usize) -> usize {
+    match place {
+        0 => 1,
+        1 => node,
+        _ => 0,
     }
-    set_number(transitions, 2 * k, (k / 4 % 65536) as u16);
-    set_number(transitions, 2 * k + 1, end_of(k));
 }
 
-fn fill_transitions(transitions: &mut [u16]) {
-    let mut k: usize = 0;
-    while k < MOST_TRANSITIONS {
-        set_transition(transitions, k);
-        k += 1;
+// Two atoms, and then E and A in turn, each over atom 0 and the node before.
+fn until(node: usize, place: usize) -> usize {
+    if node < 2 {
+        return atom(node, place);
+    }
+    match place {
+        0 => 5 + node % 2,
+        1 => 0,
+        _ => node - 1,
+    }
+}
+
+// All atoms, and behind them each in conjunction with the node before.
+fn conjunct(node: usize, place: usize) -> usize {
+    if node < MOST_ATOMS {
+        return atom(node, place);
+    }
+    match place {
+        0 => 3,
+        1 => node % MOST_ATOMS,
+        _ => node - 1,
+    }
+}
+
+fn number(what: usize, i: usize) -> usize {
+    match what {
+        TRANSITIONS => transition(i),
+        UNTILS => until(i / 3, i % 3),
+        _ => conjunct(i / 3, i % 3),
+    }
+}
+
+fn fill(list: &mut [u16], what: usize) {
+    let mut i: usize = 0;
+    while i < list.len() {
+        list[i] = (number(what, i) % 65536) as u16;
+        i += 1;
     }
 }
 
@@ -53,31 +97,39 @@ fn fill_labels(labels: &mut [u8]) {
     }
 }
 
-// Node i, where there may be one.
-fn set_node(nodes: &mut [u16], i: usize, kind: u16, left: usize, right: usize) {
-    if MOST_NODES <= i {
-        return;
-    }
-    set_number(nodes, 3 * i, kind);
-    set_number(nodes, 3 * i + 1, (left % 65536) as u16);
-    set_number(nodes, 3 * i + 2, (right % 65536) as u16);
-}
-
-// Two atoms, and then E and A in turn, each over atom 0 and the node before.
-fn set_until(nodes: &mut [u16], i: usize) {
-    if i < 2 {
-        set_node(nodes, i, 1, i, 0);
-        return;
-    }
-    set_node(nodes, i, (5 + i % 2) as u16, 0, i - 1);
-}
-
-fn fill_untils(nodes: &mut [u16]) {
-    let mut i: usize = 0;
-    while i < MOST_NODES {
-        set_until(nodes, i);
-        i += 1;
-    }
+// A model asked twice: as a night, and both ways.
+fn twice(
+    name: &[u8],
+    states: usize,
+    atoms: usize,
+    labels: &[u8],
+    initial: &[u8],
+    transitions: &[u16],
+    nodes: &[u16],
+    room: usize,
+) {
+    judging::asked(
+        NIGHT,
+        name,
+        states,
+        atoms,
+        labels,
+        initial,
+        transitions,
+        nodes,
+        room,
+    );
+    judging::asked(
+        BOTH,
+        name,
+        states,
+        atoms,
+        labels,
+        initial,
+        transitions,
+        nodes,
+        room,
+    );
 }
 
 // As many states, transitions and nodes as there may be, all nodes but two untils.
@@ -86,10 +138,10 @@ pub(crate) fn largest() {
     let mut labels = [0u8; 2 * MOST_STATES];
     let mut nodes = [0u16; MOST_NODE_NUMBERS];
     let initial = [1u8; MOST_STATES];
-    fill_transitions(&mut transitions);
+    fill(&mut transitions, TRANSITIONS);
     fill_labels(&mut labels);
-    fill_untils(&mut nodes);
-    judging::night(
+    fill(&mut nodes, UNTILS);
+    twice(
         b"largest",
         MOST_STATES,
         2,
@@ -97,9 +149,17 @@ pub(crate) fn largest() {
         &initial,
         &transitions,
         &nodes,
+        MOST_VERDICTS,
     );
-    let call = base::of(MOST_STATES, 2, MOST_TRANSITIONS, MOST_NODES);
-    judging::both(b"largest", call, &labels, &initial, &transitions, &nodes);
+}
+
+// The three path calls in turn.
+fn in_turn(name: &[u8], transitions: &[u16], left: &[u8], right: &[u8]) {
+    let states = MOST_STATES;
+    let path = asking::first(name, states, transitions, left, right, 2, 0, states);
+    let list = spaces::numbers(&path, (MOST_STATES - 1) / 3 + 1);
+    asking::next(name, states, transitions, left, right, 2, list);
+    asking::check(name, states, transitions, left, right, 2, list);
 }
 
 // The same states and transitions asked for paths: from state 0 three states on at each step, and no other way.
@@ -107,50 +167,28 @@ pub(crate) fn longest() {
     let mut transitions = [0u16; MOST_TRANSITION_NUMBERS];
     let left = [2u8; MOST_STATES];
     let mut right = [0u8; MOST_STATES];
-    fill_transitions(&mut transitions);
-    set_byte(&mut right, MOST_STATES - 1, 2);
-    let call = base::of(MOST_STATES, 0, MOST_TRANSITIONS, 0);
-    asking::in_turn(b"largest", call, &transitions, &left, &right);
-}
-
-// Atom i, and behind the atoms its conjunction with the node before.
-fn set_conjunct(nodes: &mut [u16], i: usize) {
-    if MOST_ATOMS <= i {
-        return;
-    }
-    set_node(nodes, i, 1, i, 0);
-    set_node(nodes, MOST_ATOMS + i, 3, i, MOST_ATOMS + i - 1);
-}
-
-fn fill_conjuncts(nodes: &mut [u16]) {
-    let mut i: usize = 0;
-    while i < MOST_ATOMS {
-        set_conjunct(nodes, i);
-        i += 1;
-    }
+    fill(&mut transitions, TRANSITIONS);
+    right[MOST_STATES - 1] = 2;
+    in_turn(b"largest", &transitions, &left, &right);
 }
 
 // One state with as many atoms as there may be, the last of them unknown: so is the conjunction of all.
+// And no atom: the constant true at one state.
 pub(crate) fn most_atoms() {
     let mut labels = [2u8; MOST_ATOMS];
     let mut nodes = [0u16; 6 * MOST_ATOMS];
-    let initial = [1u8];
-    let transitions = [0u16, 0];
-    set_byte(&mut labels, MOST_ATOMS - 1, 1);
-    fill_conjuncts(&mut nodes);
-    let call = base::of(1, MOST_ATOMS, 1, 2 * MOST_ATOMS);
-    judging::both(
+    labels[MOST_ATOMS - 1] = 1;
+    fill(&mut nodes, CONJUNCTS);
+    judging::asked(
+        BOTH,
         b"the most atoms",
-        call,
+        1,
+        MOST_ATOMS,
         &labels,
-        &initial,
-        &transitions,
+        &[1],
+        &[0, 0],
         &nodes,
+        2 * MOST_ATOMS,
     );
-}
-
-// No atom: the constant true at one state.
-pub(crate) fn no_atoms() {
-    let call = base::of(1, 0, 1, 1);
-    judging::both(b"no atoms", call, &[], &[1], &[0, 0], &[0, 0, 0]);
+    run(b"J|no atoms|S=1,A=0,L=0,I=1,1,T=2,0,0,N=3,0,0,0,V=1,|");
 }

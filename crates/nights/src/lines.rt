@@ -1,48 +1,65 @@
-// What a case writes: words, counts, rows of values, lists of states.
-use crate::print;
-use crate::spaces::bytes;
-use kripke::limits::MOST_STATES;
+// What a case writes: which call, its name, numbers, words, and whether what was lent stayed.
+use crate::table::part;
 use libc::STDOUT_FILENO;
 
-pub(crate) fn word(text: &[u8]) {
+// The calls: of a text, of a path question, of a model. Both is Judge and then the printed text; a night is told in short.
+pub(crate) const READ: usize = 0;
+
+pub(crate) const TEXT: usize = 1;
+
+pub(crate) const FIRST: usize = 2;
+
+pub(crate) const NEXT: usize = 3;
+
+pub(crate) const CHECK: usize = 4;
+
+pub(crate) const JUDGE: usize = 5;
+
+pub(crate) const BOTH: usize = 6;
+
+pub(crate) const NIGHT: usize = 7;
+
+// What is lent, whole or behind what was written.
+pub(crate) const REST: usize = 0;
+
+pub(crate) const VERDICT_SPACE: usize = 1;
+
+pub(crate) const TABLES: usize = 2;
+
+pub(crate) const PATH_SPACE: usize = 3;
+
+pub(crate) const LIST: usize = 4;
+
+pub(crate) fn write(text: &[u8]) {
     io::write_all(STDOUT_FILENO, text);
 }
 
-pub(crate) fn count(key: &[u8], number: usize) {
-    word(key);
-    io::print_decimal(STDOUT_FILENO, number as u64);
+// Word k of a table.
+pub(crate) fn say(words: &[u8], k: usize) {
+    write(part(words, k));
 }
 
-pub(crate) fn answer(key: &[u8], number: u8) {
-    word(key);
+// Word k of a table, and a number.
+pub(crate) fn count(words: &[u8], k: usize, number: usize) {
+    say(words, k);
     io::print_decimal(STDOUT_FILENO, number as u64);
 }
 
 // Which call a line is of, and its case.
-pub(crate) fn case(call: &[u8], name: &[u8]) {
-    word(call);
-    word(name);
-    word(b": ");
+pub(crate) fn case(call: usize, name: &[u8]) {
+    let words = b"read, |text, |first, |next, |check, |judge, |judge, ||: |";
+    say(words, call);
+    write(name);
+    say(words, 8);
 }
 
-pub(crate) fn row(values: &[u8]) {
-    let mut line = [b' '; MOST_STATES];
-    let end = print::symbols(&mut line, 0, values, b"FUT");
-    word(bytes(&line, end));
-}
-
-pub(crate) fn list(entries: &[u16]) {
-    let mut line = [b' '; 4 * MOST_STATES];
-    let end = print::numbers(&mut line, 0, entries);
-    word(bytes(&line, end));
+pub(crate) fn answer(number: u8) {
+    count(b"answer=|", 0, number as usize);
 }
 
 // The end of a line: whether what is named stayed as it was.
-pub(crate) fn kept(what: &[u8], same: bool) {
-    word(what);
-    if same {
-        word(b" kept\n");
-    } else {
-        word(b" changed\n");
-    }
+pub(crate) fn kept(what: usize, same: bool) {
+    let words = b", rest|, verdict space|, tables|, path space|, list| kept\n| changed\n|";
+    say(words, what);
+    say(words, if same { 5 } else { 6 });
 }

@@ -1,37 +1,34 @@
 // The nights that are run, one line a case and call, held to the stored output.
 //
-//   small      cases 2 to 6 and 11
+//   written    cases 2 to 6 and 11, and cases beside them
 //   largest    as much of everything as there may be, and no atom
 //   refused    each cause of a refusal of judging
 //   questions  each cause of a refusal of the path calls
 //   texts      each cause of a refusal of reading
-//   judging, asking, reading   a case asked, and its lines written
-//   base, change               the model that the cases change, and one change of it
-//   lending, spaces            the calls lent fronts, and what was lent compared
-//   print, lines, telling      a model as text, the words of a line, a path call's answer
+//   cases, table, base         tables of cases, their parts, the model that they change
+//   judging, asking, reading   the calls asked and told
+//   print, lines, spaces       a model as text, the words of a line, what was lent compared
 mod asking;
 mod base;
-mod change;
+mod cases;
 mod judging;
 mod largest;
-mod lending;
 mod lines;
 mod print;
 mod questions;
 mod reading;
 mod refused;
-mod small;
 mod spaces;
-mod telling;
+mod table;
 mod texts;
+mod written;
 
 fn main() {
-    small::nights();
-    small::seven_states();
+    written::nights();
+    written::beside();
     largest::largest();
     largest::longest();
     largest::most_atoms();
-    largest::no_atoms();
     refused::judging();
     questions::paths();
     texts::texts();

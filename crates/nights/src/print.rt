@@ -1,150 +1,115 @@
-// A model printed as text, with whatever counts and entries it has, and the pieces that lines are made of.
-// Each function writes from a place on, as far as there is room, and hands back the place behind.
-use crate::change::Call;
-use crate::spaces::bytes;
-use crate::spaces::bytes_part;
-use crate::spaces::numbers_part;
+// A model printed as text, with whatever counts and entries it has, as far as there is room.
+use crate::spaces;
+use crate::table::part;
+use values::limits::MOST_TEXT;
+ghost use Prim.Native.Nat.{_<_};
 
-pub(crate) fn byte(out: &mut [u8], at: usize, value: u8) -> usize {
-    if out.len() <= at {
-        return at;
-    }
-    out[at] = value;
-    at + 1
+// One byte more than a text may have, and where what is printed ends.
+pub(crate) const MOST_PAGE: usize = MOST_TEXT + 1;
+
+pub(crate) struct Page {
+    pub(crate) text: [u8; MOST_PAGE],
+    pub(crate) end: usize,
 }
 
-pub(crate) fn word(out: &mut [u8], at: usize, text: &[u8]) -> usize {
-    let mut end = at;
-    let mut i: usize = 0;
-    while i < text.len() {
-        end = byte(out, end, text[i]);
-        i += 1;
+pub(crate) fn blank() -> Page {
+    Page {
+        text: [b'\n'; MOST_PAGE],
+        end: 0,
     }
-    end
-}
-
-// The last digit of a number that is not 0.
-fn digit(out: &mut [u8], at: usize, number: usize) -> usize {
-    if number == 0 {
-        return at;
-    }
-    byte(out, at, b'0' + (number % 10) as u8)
-}
-
-// A number of up to five digits.
-pub(crate) fn number(out: &mut [u8], at: usize, number: usize) -> usize {
-    let first = digit(out, at, number / 10000);
-    let second = digit(out, first, number / 1000);
-    let third = digit(out, second, number / 100);
-    let fourth = digit(out, third, number / 10);
-    byte(out, fourth, b'0' + (number % 10) as u8)
-}
-
-fn sign(signs: &[u8], value: u8) -> u8 {
-    let i = value as usize;
-    if i < signs.len() {
-        return signs[i];
-    }
-    b'?'
-}
-
-// A sign for each value of a row.
-pub(crate) fn symbols(out: &mut [u8], at: usize, row: &[u8], signs: &[u8]) -> usize {
-    let mut end = at;
-    let mut i: usize = 0;
-    while i < row.len() {
-        end = byte(out, end, sign(signs, row[i]));
-        i += 1;
-    }
-    end
 }
 
 fn wide(number: u16) -> usize {
     number as usize
 }
 
-// Entry i of a list, a comma before each but the first.
-fn entry(out: &mut [u8], at: usize, list: &[u16], i: usize) -> usize {
-    if list.len() <= i {
-        return at;
+pub(crate) fn bytes(page: Page, text: &[u8]) -> Page {
+    let at = page.end;
+    if MOST_PAGE < at {
+        return page;
     }
-    if i == 0 {
-        return number(out, at, wide(list[i]));
-    }
-    let behind = byte(out, at, b',');
-    number(out, behind, wide(list[i]))
-}
-
-pub(crate) fn numbers(out: &mut [u8], at: usize, list: &[u16]) -> usize {
-    let mut end = at;
+    let mut out = page.text;
+    let n = spaces::least(text.len(), MOST_PAGE - at);
     let mut i: usize = 0;
-    while i < list.len() {
-        end = entry(out, end, list, i);
+    while i < n {
+        out[at + i] = text[i];
         i += 1;
     }
-    end
+    Page {
+        text: out,
+        end: at + n,
+    }
 }
 
-fn count_line(out: &mut [u8], at: usize, key: &[u8], count: usize) -> usize {
-    let value = word(out, at, key);
-    let end = number(out, value, count);
-    byte(out, end, b'\n')
+// Word k of those that a text is made of: keys, each behind the line feed before it, a comma, a line feed, and signs.
+fn word(page: Page, k: usize) -> Page {
+    let words =
+        b"states=|\natoms=|\ninit=|\nlabel=|\nedges=|\nedge=|\nnodes=|\nnode=|,|\n|F|U|T|0|1|";
+    bytes(page, part(words, k))
 }
 
-fn row_line(out: &mut [u8], at: usize, key: &[u8], row: &[u8], signs: &[u8]) -> usize {
-    let value = word(out, at, key);
-    let end = symbols(out, value, row, signs);
-    byte(out, end, b'\n')
+// Word k and a number.
+fn count(page: Page, k: usize, number: usize) -> Page {
+    let mut digits = [0u8; 20];
+    let n = io::decimal(number as u64, &mut digits);
+    bytes(word(page, k), &digits[..n])
 }
 
-fn numbers_line(out: &mut [u8], at: usize, key: &[u8], list: &[u16]) -> usize {
-    let value = word(out, at, key);
-    let end = numbers(out, value, list);
-    byte(out, end, b'\n')
+fn sign(first: u8, value: u8) -> usize {
+    first as usize + value as usize
 }
 
-fn label_lines(out: &mut [u8], at: usize, labels: &[u8], states: usize, atoms: usize) -> usize {
-    let mut end = at;
+// Word k and a sign for each value of a row, the signs being words from one on.
+fn signs(page: Page, k: usize, row: &[u8], first: u8) -> Page {
+    let mut line = word(page, k);
+    let mut i: usize = 0;
+    while i < row.len() {
+        line = word(line, sign(first, row[i]));
+        i += 1;
+    }
+    line
+}
+
+fn labels_of(labels: &[u8], k: usize, atoms: usize) -> &[u8] {
+    let from = spaces::least(spaces::parts(k, atoms), labels.len());
+    spaces::bytes(&labels[from..], atoms)
+}
+
+fn label_lines(page: Page, labels: &[u8], states: usize, atoms: usize) -> Page {
+    let mut lines = page;
     let mut k: usize = 0;
     while k < states {
-        end = row_line(out, end, b"label=", bytes_part(labels, k, atoms), b"FUT");
+        lines = signs(lines, 3, labels_of(labels, k, atoms), 10);
         k += 1;
     }
-    end
+    lines
 }
 
-// A line for each w numbers of a list.
-fn number_lines(out: &mut [u8], at: usize, key: &[u8], list: &[u16], w: usize, n: usize) -> usize {
-    let mut end = at;
-    let mut k: usize = 0;
-    while k < n {
-        end = numbers_line(out, end, key, numbers_part(list, k, w));
-        k += 1;
+// A line for each w numbers of a list: word k before the first, a comma before the others.
+fn number_lines(page: Page, k: usize, list: &[u16], w: usize) -> Page
+    requires { ⌜ 0 < w ⌝ }
+{
+    let mut lines = page;
+    let mut i: usize = 0;
+    while i < list.len() {
+        lines = count(lines, if i % w == 0 { k } else { 8 }, wide(list[i]));
+        i += 1;
     }
-    end
-}
-
-// The lines up to the labels.
-fn states(out: &mut [u8], call: Call, labels: &[u8], initial: &[u8]) -> usize {
-    let first = count_line(out, 0, b"states=", call.states);
-    let second = count_line(out, first, b"atoms=", call.atoms);
-    let third = row_line(out, second, b"init=", bytes(initial, call.initial), b"01");
-    label_lines(out, third, labels, call.states, call.atoms)
+    lines
 }
 
 pub(crate) fn model(
-    out: &mut [u8],
-    call: Call,
+    states: usize,
+    atoms: usize,
     labels: &[u8],
     initial: &[u8],
     transitions: &[u16],
     nodes: &[u16],
-) -> usize {
-    let edges = call.transitions / 2;
-    let formulas = call.nodes / 3;
-    let first = states(out, call, labels, initial);
-    let second = count_line(out, first, b"edges=", edges);
-    let third = number_lines(out, second, b"edge=", transitions, 2, edges);
-    let fourth = count_line(out, third, b"nodes=", formulas);
-    number_lines(out, fourth, b"node=", nodes, 3, formulas)
+) -> Page {
+    let counts = count(count(blank(), 0, states), 1, atoms);
+    let labelled = label_lines(signs(counts, 2, initial, 13), labels, states, atoms);
+    let edges = count(labelled, 4, transitions.len() / 2);
+    let joined = number_lines(edges, 5, transitions, 2);
+    let formulas = count(joined, 6, nodes.len() / 3);
+    word(number_lines(formulas, 7, nodes, 3), 9)
 }

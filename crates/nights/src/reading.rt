@@ -1,127 +1,150 @@
 // Texts asked: read by `read_model`, and judged by `judge_text`.
-use crate::base;
-use crate::change::Call;
-use crate::change::Change;
 use crate::judging;
-use crate::lending;
 use crate::lines;
+use crate::lines::READ;
+use crate::lines::REST;
+use crate::lines::TABLES;
+use crate::lines::TEXT;
 use crate::print;
 use crate::spaces;
 use crate::spaces::PATTERN;
 use crate::spaces::PATTERN_NUMBER;
-use kripke::limits::MOST_LABELS;
-use kripke::limits::MOST_NODE_NUMBERS;
-use kripke::limits::MOST_STATES;
-use kripke::limits::MOST_TEXT;
-use kripke::limits::MOST_TRANSITION_NUMBERS;
-use kripke::limits::MOST_VERDICTS;
-use sheet::Sheet;
 use text::Read;
+use values::limits::MOST_LABELS;
+use values::limits::MOST_NODE_NUMBERS;
+use values::limits::MOST_STATES;
+use values::limits::MOST_TRANSITION_NUMBERS;
+use values::limits::MOST_VERDICTS;
+ghost use Prim.Native.Nat.{_<_, _≤_};
+
+// The tables, one of which may be too short, and none.
+pub(crate) const NONE: usize = 0;
+
+pub(crate) const LABELS: usize = 1;
+
+pub(crate) const INITIAL: usize = 2;
+
+pub(crate) const TRANSITIONS: usize = 3;
+
+pub(crate) const NODES: usize = 4;
+
+// What reading answered: 0 and the counts, or the number of the refusal and zeros.
+pub(crate) struct Counts {
+    pub(crate) number: u8,
+    pub(crate) states: usize,
+    pub(crate) atoms: usize,
+    pub(crate) transitions: usize,
+    pub(crate) nodes: usize,
+}
+
+pub(crate) fn counted(answer: Read) -> Counts {
+    match answer {
+        Read::Refused(number) => Counts {
+            number,
+            states: 0,
+            atoms: 0,
+            transitions: 0,
+            nodes: 0,
+        },
+        Read::Model {
+            states,
+            atoms,
+            transitions,
+            nodes,
+        } => Counts {
+            number: 0,
+            states,
+            atoms,
+            transitions,
+            nodes,
+        },
+    }
+}
 
 // Whether the tables hold the pattern behind what was filled.
-fn tables_kept(
-    filled: Call,
-    labels: &[u8],
-    initial: &[u8],
-    transitions: &[u16],
-    nodes: &[u16],
-) -> bool {
-    let l = [PATTERN; MOST_LABELS];
-    let i = [PATTERN; MOST_STATES];
-    let t = [PATTERN_NUMBER; MOST_TRANSITION_NUMBERS];
-    let n = [PATTERN_NUMBER; MOST_NODE_NUMBERS];
-    if !spaces::bytes_kept(labels, &l, filled.labels) {
+fn kept(filled: Counts, labels: &[u8], initial: &[u8], transitions: &[u16], nodes: &[u16]) -> bool {
+    let before = [PATTERN_NUMBER; MOST_TRANSITION_NUMBERS];
+    let of_nodes = spaces::numbers(&before, MOST_NODE_NUMBERS);
+    if !spaces::bytes_kept(labels, spaces::parts(filled.states, filled.atoms)) {
         return false;
     }
-    if !spaces::bytes_kept(initial, &i, filled.initial) {
+    if !spaces::bytes_kept(initial, filled.states) {
         return false;
     }
-    if !spaces::numbers_kept(transitions, &t, filled.transitions) {
+    if !spaces::numbers_kept(transitions, &before, spaces::parts(filled.transitions, 2)) {
         return false;
     }
-    spaces::numbers_kept(nodes, &n, filled.nodes)
+    spaces::numbers_kept(nodes, of_nodes, spaces::parts(filled.nodes, 3))
 }
 
 // What reading answered, and whether the tables stayed, or what is behind their fronts.
-fn tell_read(answer: Read, labels: &[u8], initial: &[u8], transitions: &[u16], nodes: &[u16]) {
-    match answer {
-        Read::Refused(number) => {
-            let filled = base::of(0, 0, 0, 0);
-            let kept = tables_kept(filled, labels, initial, transitions, nodes);
-            lines::answer(b"answer=", number);
-            lines::kept(b", tables", kept);
-        }
-        Read::Model {
-            states: s,
-            atoms: a,
-            transitions: e,
-            nodes: n,
-        } => {
-            let filled = base::of(s, a, e, n);
-            let kept = tables_kept(filled, labels, initial, transitions, nodes);
-            lines::count(b"states=", s);
-            lines::count(b" atoms=", a);
-            lines::count(b" edges=", e);
-            lines::count(b" nodes=", n);
-            lines::kept(b", rest", kept);
-        }
+fn tell(counts: Counts, same: bool) {
+    if counts.number != 0 {
+        lines::answer(counts.number);
+        lines::kept(TABLES, same);
+        return;
     }
+    let words = b"states=| atoms=| edges=| nodes=|";
+    lines::count(words, 0, counts.states);
+    lines::count(words, 1, counts.atoms);
+    lines::count(words, 2, counts.transitions);
+    lines::count(words, 3, counts.nodes);
+    lines::kept(REST, same);
 }
 
-pub(crate) fn read(name: &[u8], text: &[u8], lent: Call) {
+// How long a table is lent: one entry short where it is the one that is too short.
+fn lent(most: usize, table: usize, short: usize) -> usize
+    requires { ⌜ 0 < most ⌝ }
+    ensures { λ r. ⌜ r ≤ most ⌝ }
+{
+    if table == short { most - 1 } else { most }
+}
+
+// A text read, with one table too short or none.
+pub(crate) fn read(name: &[u8], text: &[u8], short: usize) {
     let mut labels = [PATTERN; MOST_LABELS];
     let mut initial = [PATTERN; MOST_STATES];
     let mut transitions = [PATTERN_NUMBER; MOST_TRANSITION_NUMBERS];
     let mut nodes = [PATTERN_NUMBER; MOST_NODE_NUMBERS];
-    let answer = lending::read(
+    let l = lent(MOST_LABELS, LABELS, short);
+    let i = lent(MOST_STATES, INITIAL, short);
+    let t = lent(MOST_TRANSITION_NUMBERS, TRANSITIONS, short);
+    let n = lent(MOST_NODE_NUMBERS, NODES, short);
+    let answer = text::read_model(
         text,
-        lent,
-        &mut labels,
-        &mut initial,
-        &mut transitions,
-        &mut nodes,
+        &mut labels[..l],
+        &mut initial[..i],
+        &mut transitions[..t],
+        &mut nodes[..n],
     );
-    lines::case(b"read, ", name);
-    tell_read(answer, &labels, &initial, &transitions, &nodes);
+    let counts = counted(answer);
+    lines::case(READ, name);
+    tell(
+        counts,
+        kept(counts, &labels, &initial, &transitions, &nodes),
+    );
 }
 
-// What judging a text answered, and whether the verdict space stayed, or what is behind the rows.
-fn tell_judged(sheet: Sheet, space: &[u8]) {
-    let before = [PATTERN; MOST_VERDICTS];
-    if sheet.number == 0 {
-        let end = spaces::begin(sheet.nodes, sheet.states);
-        judging::verdicts(sheet.states, sheet.nodes, space, sheet.model);
-        lines::kept(b", rest", spaces::bytes_kept(space, &before, end));
-        return;
-    }
-    lines::answer(b"answer=", sheet.number);
-    lines::kept(b", verdict space", spaces::bytes_kept(space, &before, 0));
-}
-
-fn judged(name: &[u8], text: &[u8], lent: Call) {
-    let mut verdicts = [PATTERN; MOST_VERDICTS];
-    let sheet = lending::judge_text(text, lent, &mut verdicts);
-    lines::case(b"text, ", name);
-    tell_judged(sheet, &verdicts);
-}
-
-// A text read, and read and judged.
-pub(crate) fn asked(name: &[u8], text: &[u8], lent: Call) {
-    read(name, text, lent);
-    judged(name, text, lent);
+// A text read, and judged with so much room.
+pub(crate) fn asked(name: &[u8], text: &[u8], room: usize) {
+    read(name, text, NONE);
+    let mut space = [PATTERN; MOST_VERDICTS];
+    let lent = spaces::least(room, MOST_VERDICTS);
+    let sheet = sheet::judge_text(text, &mut space[..lent]);
+    judging::told(TEXT, name, sheet, 0, &space);
 }
 
 // A model printed as text, and asked.
 pub(crate) fn printed(
     name: &[u8],
-    call: Call,
+    states: usize,
+    atoms: usize,
     labels: &[u8],
     initial: &[u8],
     transitions: &[u16],
     nodes: &[u16],
+    room: usize,
 ) {
-    let mut text = [b'x'; MOST_TEXT];
-    let end = print::model(&mut text, call, labels, initial, transitions, nodes);
-    let lent = base::lent().changed(Change::Verdicts(call.verdicts));
-    asked(name, spaces::bytes(&text, end), lent);
+    let page = print::model(states, atoms, labels, initial, transitions, nodes);
+    asked(name, spaces::bytes(&page.text, page.end), room);
 }

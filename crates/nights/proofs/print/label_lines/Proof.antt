@@ -1,31 +1,23 @@
--- `label_lines` ends; the text keeps its length.
-use mathlib.Core.Path.{_≡_}
+-- `label_lines` ends.
 use Prim.Native.Nat.{_-_}
-use lib.ListN.{length}
 use borrow.Author.Needs.{needs}
 use Rattle.nights.proofs.print.label_lines.Statement.{statement}
 use Rattle.nights.proofs.print.label_lines.Tie as tie
 
 abbrev Inv-loop : tie.InvT-loop
-Inv-loop out₀ at labels states atoms end₀ k₀ t8 t9 out end k = length out ≡ length out₀
+Inv-loop labels states atoms lines₀ k₀ lines k = Unit {0}
 
 abbrev μ-loop : tie.MeasureT-loop
-μ-loop out₀ at labels states atoms end₀ k₀ t8 t9 out end k = states - k
+μ-loop labels states atoms lines₀ k₀ lines k = states - k
 
 loop-holds : tie.Need-loop-holds Inv-loop μ-loop
 loop-holds c = search needs
 
-slice-aggregate-row-line : tie.Need-slice-aggregate-row-line Inv-loop μ-loop
-slice-aggregate-row-line c = search needs
+labels-of-requires : tie.Need-labels-of-requires Inv-loop μ-loop
+labels-of-requires c κs = search needs
 
-bytes-part-requires : tie.Need-bytes-part-requires Inv-loop μ-loop
-bytes-part-requires c κs = search needs
-
-slice-aggregate-row-line-2 : tie.Need-slice-aggregate-row-line-2 Inv-loop μ-loop
-slice-aggregate-row-line-2 c = search needs
-
-row-line-requires : tie.Need-row-line-requires Inv-loop μ-loop
-row-line-requires c κs = search needs
+signs-requires : tie.Need-signs-requires Inv-loop μ-loop
+signs-requires c κs = search needs
 
 add-k : tie.Need-add-k Inv-loop μ-loop
 add-k c = search needs
@@ -35,9 +27,6 @@ loop-less c = search needs
 
 loop-again : tie.Need-loop-again Inv-loop μ-loop
 loop-again c = search needs
-
-same-length : tie.Need-same-length Inv-loop μ-loop
-same-length c = search needs
 
 returns : tie.Need-returns Inv-loop μ-loop
 returns c = search needs
@@ -49,12 +38,9 @@ label-lines-spec =
     Inv-loop
     μ-loop
     loop-holds
-    slice-aggregate-row-line
-    bytes-part-requires
-    slice-aggregate-row-line-2
-    row-line-requires
+    labels-of-requires
+    signs-requires
     add-k
     loop-less
     loop-again
-    same-length
     returns)

@@ -1,5 +1,4 @@
--- `number_lines` ends; the text keeps its length.
-use mathlib.Core.Path.{_≡_}
+-- `number_lines` ends.
 use Prim.Native.Nat.{_-_}
 use lib.ListN.{length}
 use borrow.Author.Needs.{needs}
@@ -7,31 +6,37 @@ use Rattle.nights.proofs.print.number_lines.Statement.{statement}
 use Rattle.nights.proofs.print.number_lines.Tie as tie
 
 abbrev Inv-loop : tie.InvT-loop
-Inv-loop out₀ at key list w n end₀ k₀ out end k = length out ≡ length out₀
+Inv-loop k list w lines₀ i₀ lines i = Unit {0}
 
 abbrev μ-loop : tie.MeasureT-loop
-μ-loop out₀ at key list w n end₀ k₀ out end k = n - k
+μ-loop k list w lines₀ i₀ lines i = length list - i
 
 loop-holds : tie.Need-loop-holds Inv-loop μ-loop
 loop-holds c = search needs
 
-numbers-part-requires : tie.Need-numbers-part-requires Inv-loop μ-loop
-numbers-part-requires c κs = search needs
+rem-if1 : tie.Need-rem-if1 Inv-loop μ-loop
+rem-if1 c = search needs
 
-numbers-line-requires : tie.Need-numbers-line-requires Inv-loop μ-loop
-numbers-line-requires c κs = search needs
+mul-wide : tie.Need-mul-wide Inv-loop μ-loop
+mul-wide c = search needs
 
-add-k : tie.Need-add-k Inv-loop μ-loop
-add-k c = search needs
+shared-slice-read-wide : tie.Need-shared-slice-read-wide Inv-loop μ-loop
+shared-slice-read-wide c = search needs
+
+wide-requires : tie.Need-wide-requires Inv-loop μ-loop
+wide-requires c κs = search needs
+
+count-requires : tie.Need-count-requires Inv-loop μ-loop
+count-requires c κs = search needs
+
+add-i : tie.Need-add-i Inv-loop μ-loop
+add-i c = search needs
 
 loop-less : tie.Need-loop-less Inv-loop μ-loop
 loop-less c = search needs
 
 loop-again : tie.Need-loop-again Inv-loop μ-loop
 loop-again c = search needs
-
-same-length : tie.Need-same-length Inv-loop μ-loop
-same-length c = search needs
 
 returns : tie.Need-returns Inv-loop μ-loop
 returns c = search needs
@@ -43,10 +48,12 @@ number-lines-spec =
     Inv-loop
     μ-loop
     loop-holds
-    numbers-part-requires
-    numbers-line-requires
-    add-k
+    rem-if1
+    mul-wide
+    shared-slice-read-wide
+    wide-requires
+    count-requires
+    add-i
     loop-less
     loop-again
-    same-length
     returns)

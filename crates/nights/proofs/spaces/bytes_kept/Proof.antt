@@ -1,4 +1,4 @@
--- `bytes_kept` ends and stays within both lists.
+-- `bytes_kept` ends and stays within the space.
 use Prim.Native.Nat.{_-_}
 use lib.ListN.{length}
 use borrow.Author.Needs.{needs}
@@ -6,25 +6,19 @@ use Rattle.nights.proofs.spaces.bytes_kept.Statement.{statement}
 use Rattle.nights.proofs.spaces.bytes_kept.Tie as tie
 
 abbrev Inv-loop : tie.InvT-loop
-Inv-loop now before from i₀ i = Unit {0}
+Inv-loop space from i₀ i = Unit {0}
 
 abbrev μ-loop : tie.MeasureT-loop
-μ-loop now before from i₀ i = length now - i
-
-returns : tie.Need-returns Inv-loop μ-loop
-returns c = search needs
+μ-loop space from i₀ i = length space - i
 
 loop-holds : tie.Need-loop-holds Inv-loop μ-loop
 loop-holds c = search needs
 
-shared-slice-read-if2 : tie.Need-shared-slice-read-if2 Inv-loop μ-loop
-shared-slice-read-if2 c = search needs
+shared-slice-read-if1 : tie.Need-shared-slice-read-if1 Inv-loop μ-loop
+shared-slice-read-if1 c = search needs
 
-shared-slice-read-if2-2 : tie.Need-shared-slice-read-if2-2 Inv-loop μ-loop
-shared-slice-read-if2-2 c = search needs
-
-returns-2 : tie.Need-returns-2 Inv-loop μ-loop
-returns-2 c = search needs
+returns : tie.Need-returns Inv-loop μ-loop
+returns c = search needs
 
 add-i : tie.Need-add-i Inv-loop μ-loop
 add-i c = search needs
@@ -35,8 +29,8 @@ loop-less c = search needs
 loop-again : tie.Need-loop-again Inv-loop μ-loop
 loop-again c = search needs
 
-returns-3 : tie.Need-returns-3 Inv-loop μ-loop
-returns-3 c = search needs
+returns-2 : tie.Need-returns-2 Inv-loop μ-loop
+returns-2 c = search needs
 
 pub bytes-kept-spec : {M : Type 1} → statement M
 bytes-kept-spec =
@@ -44,12 +38,10 @@ bytes-kept-spec =
     (tie.spec
     Inv-loop
     μ-loop
-    returns
     loop-holds
-    shared-slice-read-if2
-    shared-slice-read-if2-2
-    returns-2
+    shared-slice-read-if1
+    returns
     add-i
     loop-less
     loop-again
-    returns-3)
+    returns-2)

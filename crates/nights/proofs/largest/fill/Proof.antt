@@ -1,0 +1,61 @@
+-- `fill` ends and stays within its list, which keeps its length.
+use mathlib.Core.Path.{_≡_}
+use Prim.Native.Nat.{_-_, _≤_}
+use native.Mathlib.Omega.{arith}
+use lib.ListN.{length, length-set}
+use borrow.Author.Needs.{needs}
+use Rattle.nights.proofs.largest.fill.Statement.{statement}
+use Rattle.nights.proofs.largest.fill.Tie as tie
+
+abbrev Inv-loop : tie.InvT-loop
+Inv-loop list₀ what i₀ list i = (i ≤ length list) × (length list ≡ length list₀)
+
+abbrev μ-loop : tie.MeasureT-loop
+μ-loop list₀ what i₀ list i = length list₀ - i
+
+loop-holds : tie.Need-loop-holds Inv-loop μ-loop
+loop-holds c = search needs
+
+number-requires : tie.Need-number-requires Inv-loop μ-loop
+number-requires c κs = search needs
+
+cast-list : tie.Need-cast-list Inv-loop μ-loop
+cast-list c = search needs
+
+mul-list : tie.Need-mul-list Inv-loop μ-loop
+mul-list c = search needs
+
+slice-write-list : tie.Need-slice-write-list Inv-loop μ-loop
+slice-write-list c = search needs
+
+add-i : tie.Need-add-i Inv-loop μ-loop
+add-i c = search needs
+
+loop-less : tie.Need-loop-less Inv-loop μ-loop
+loop-less c = search needs
+
+loop-again : tie.Need-loop-again Inv-loop μ-loop
+loop-again c = (simp length-set (omega arith), simp length-set (omega arith))
+
+same-length : tie.Need-same-length Inv-loop μ-loop
+same-length c = search needs
+
+returns : tie.Need-returns Inv-loop μ-loop
+returns c = search needs
+
+pub fill-spec : {M : Type 1} → statement M
+fill-spec =
+    tie.close
+    (tie.spec
+    Inv-loop
+    μ-loop
+    loop-holds
+    number-requires
+    cast-list
+    mul-list
+    slice-write-list
+    add-i
+    loop-less
+    loop-again
+    same-length
+    returns)
