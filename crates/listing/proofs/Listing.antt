@@ -1,4 +1,4 @@
--- The front that a call is lent, a word as a line, and that `write_line` permits one answer.
+-- The front that a call is lent, a word as a line, that a path is told only where one is to be listed, and that `write_line` permits one answer.
 use Prim.Native.Nat.{ℕ, zero, suc, _≤_, _<_}
 use mathlib.Core.Path.{_≡_, refl, ap, ap₂, sym, _∙_, subst₂}
 use mathlib.Core.List.{List, _++_}
@@ -32,7 +32,7 @@ front-all n space h = record {
   rest = drop-length space ∙ sym (drop-of-length-le space h);
 }
 
--- a path is told where one more may be listed
+-- a path is told where one is still to be listed
 pub path-told : (most n : ℕ) → (most ≡ 0 → ⊥) → told.Path n ≡ pathTold most n
 path-told zero n h = absurd (h refl)
 path-told (suc most) n h = refl
@@ -55,7 +55,7 @@ word-written {word} {before} h e copied = record {
   buffer = copied ∙ simp (le-leb _ _ h, take-length word);
 }
 
--- where no more may be listed, no path is told
+-- and only there
 first-more : (n : ℕ) (x : FirstAnswer) → firstTold 0 x ≡ told.Path n → ⊥
 first-more n (first.Path m) e = let z : _≡_ {A = ℕ} 0 1 = cc in omega arith
 first-more n first.None e = let z : _≡_ {A = ℕ} 0 1 = cc in omega arith

@@ -60,12 +60,15 @@ Stays v v′ = (v ≡ 1) ⊎ (v ≡ v′)
 abbrev pub Settling : Type 0
 Settling = (m m′ : Model) → Settled m m′ → ((k s : ℕ) → Stays (verdictAt m k s) (verdictAt m′ k s)) × Stays (modelVerdict m) (modelVerdict m′)
 
--- So is what two calls of `judge` wrote and answered, in whatever spaces;
+-- this holds of all that `judge` leaves and answers where it accepts both of two models so related, in whatever spaces
+abbrev pub AcceptingBoth : (Model → Model → Type 0) → (Model → Model → List ℕ → List ℕ → Verdict → Verdict → Type 0) → Type 0
+AcceptingBoth Related Holds =
+    (m m′ : Model) → Related m m′ → (before after before′ after′ : List ℕ) (v v′ : Verdict)
+    → Judging m before after (Verdicts v) → Judging m′ before′ after′ (Verdicts v′) → Holds m m′ after after′ v v′
+
+-- So is what two calls of `judge` wrote and answered;
 abbrev pub SettlingKeeps : Type 0
-SettlingKeeps =
-    (m m′ : Model) → Settled m m′ → (before after before′ after′ : List ℕ) (v v′ : Verdict)
-    → Judging m before after (Verdicts v) → Judging m′ before′ after′ (Verdicts v′)
-    → ((k s : ℕ) → There m k s → Stays (written m after k s) (written m′ after′ k s)) × Stays (v .0) (v′ .0)
+SettlingKeeps = AcceptingBoth Settled (λ m m′ after after′ v v′. ((k s : ℕ) → There m k s → Stays (written m after k s) (written m′ after′ k s)) × Stays (v .0) (v′ .0))
 
 -- and the second call accepts wherever the first one does.
 abbrev pub SettlingAccepted : Type 0
@@ -73,10 +76,8 @@ SettlingAccepted = Accepting (λ m before after v. (m′ : Model) → Settled m 
 
 -- "A true or false stays so however the unknown labels turn out, each filled in with yes or no, the transitions kept."
 abbrev pub CompletionKeeps : Type 0
-CompletionKeeps =
-    (m m′ : Model) → Completion m m′ → (before after before′ after′ : List ℕ) (v v′ : Verdict)
-    → Judging m before after (Verdicts v) → Judging m′ before′ after′ (Verdicts v′)
-    → ((k s : ℕ) → There m k s → (written m after k s ≡ 1 → ⊥) → written m′ after′ k s ≡ written m after k s) × ((v .0 ≡ 1 → ⊥) → v′ .0 ≡ v .0)
+CompletionKeeps = AcceptingBoth Completion (λ m m′ after after′ v v′.
+    ((k s : ℕ) → There m k s → (written m after k s ≡ 1 → ⊥) → written m′ after′ k s ≡ written m after k s) × ((v .0 ≡ 1 → ⊥) → v′ .0 ≡ v .0))
 
 -- Every choice of yes or no for the unknown labels of an accepted model is a completion, and a completion settles labels.
 abbrev pub CompletionsThere : Type 0

@@ -44,6 +44,7 @@ fn read(word: &[u8]) -> Number {
         if b'9' < byte {
             return Number::None;
         }
+        // The remainder only shows that five digits fit.
         value = value % 10000 * 10 + (byte - b'0') as usize;
         i += 1;
     }
