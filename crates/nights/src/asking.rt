@@ -19,7 +19,7 @@ ghost use mathlib.Core.Path.{_≡_};
 ghost use lib.ListN.{length};
 ghost use Rattle.values.specs.Limits.{mostStates};
 
-// What a call answered: a path of so many entries, a refusal's number, or else a word.
+// What a call answered: a path of so many entries, a refusal's number, or else a word: none, end, yes, no.
 struct Answer {
     entries: usize,
     number: u8,

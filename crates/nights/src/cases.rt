@@ -1,74 +1,97 @@
-// Tables of cases. A case has three parts: the call, the name, and a code of changes or a text.
+// The cases. A case has three parts: a letter, a name, and a code of changes or a text.
+// The letter is the last byte of its part; what stands before it says why the cases are there.
 //
-//   n   a night judged, told in short        J   judged, and printed as text and judged again
-//   j   judged                               t   a text read, and judged
-//   F   First    N   Next    C   Check       *   the three in turn
-//   m   no case: the code of a model for the cases behind it to change, in place of the base
+//   j        judged, and asked for its refusal; n told in short, as a night
+//   L l o    the same of the largest model, and in short; of the most atoms
+//   F N C    First, Next, Check; * the three in turn, p of the largest model
+//   t        a text read, and judged with the model's room; 1 2 3 4 read alone, one of the tables one entry short
+//   u v w    a text with line feeds up to the limit; one beyond it; the same read alone, the nodes one short
+//   m        no case: the code of a model for the cases behind it to change, in place of the base
 use crate::asking;
 use crate::base;
 use crate::judging;
-use crate::lines::BOTH;
+use crate::largest;
 use crate::lines::CHECK;
 use crate::lines::FIRST;
 use crate::lines::JUDGE;
 use crate::lines::NEXT;
 use crate::lines::NIGHT;
-use crate::lines::TEXT;
 use crate::reading;
+use crate::reading::NODES;
+use crate::reading::NONE;
 use crate::table::part;
-use values::limits::MOST_VERDICTS;
+use values::limits::MOST_TEXT;
 
-fn call_of(letter: u8) -> usize {
+// A case that is a text, judged with so much room.
+fn text(letter: u8, name: &[u8], text: &[u8], room: usize) {
     match letter {
-        b'j' => JUDGE,
-        b'J' => BOTH,
-        b't' => TEXT,
-        b'F' => FIRST,
-        b'N' => NEXT,
-        b'C' => CHECK,
-        _ => NIGHT,
+        b't' => reading::asked(name, text, room),
+        b'u' => reading::padded(name, text, MOST_TEXT, NONE),
+        b'v' => reading::padded(name, text, MOST_TEXT + 1, NONE),
+        b'w' => reading::padded(name, text, MOST_TEXT + 1, NODES),
+        _ => reading::read(name, text, (letter % 16) as usize),
     }
 }
 
-fn asked(call: usize, name: &[u8], model: &[u8], code: &[u8]) {
-    if call == TEXT {
-        reading::asked(name, code, MOST_VERDICTS);
-        return;
-    }
-    let numbers = base::changed(model, code);
-    if call <= CHECK {
-        asking::numbered(call, name, &numbers);
-    } else {
-        judging::numbered(call, name, &numbers);
+// A case that is a model or a path question.
+fn tables(letter: u8, name: &[u8], numbers: &[u16]) {
+    match letter {
+        b'n' => judging::numbered(NIGHT, name, numbers),
+        b'j' => judging::numbered(JUDGE, name, numbers),
+        b'F' => asking::numbered(FIRST, name, numbers),
+        b'N' => asking::numbered(NEXT, name, numbers),
+        b'C' => asking::numbered(CHECK, name, numbers),
+        _ => {
+            asking::numbered(FIRST, name, numbers);
+            asking::numbered(NEXT, name, numbers);
+            asking::numbered(CHECK, name, numbers);
+        }
     }
 }
 
-fn case(letter: u8, name: &[u8], model: &[u8], code: &[u8]) {
-    if letter == b'*' {
-        asked(FIRST, name, model, code);
-        asked(NEXT, name, model, code);
-        asked(CHECK, name, model, code);
-        return;
+fn asked(letter: u8, name: &[u8], model: &[u8], code: &[u8]) {
+    match letter {
+        b'l' => largest::largest(NIGHT, name),
+        b'L' => largest::largest(JUDGE, name),
+        b'o' => largest::most_atoms(name),
+        b'p' => largest::longest(name),
+        b'n' | b'j' | b'F' | b'N' | b'C' | b'*' => {
+            let numbers = base::changed(model, code);
+            tables(letter, name, &numbers);
+        }
+        _ => {
+            let numbers = base::changed(model, b"");
+            text(letter, name, code, base::one(&numbers, b'V'));
+        }
     }
-    asked(call_of(letter), name, model, code);
+}
+
+// The letter of a case; a line feed behind the last one.
+fn letter_of(part: &[u8]) -> u8 {
+    let n = part.len();
+    if n == 0 {
+        return b'\n';
+    }
+    part[n - 1]
 }
 
 // No table has as many parts.
-const MOST_PARTS: usize = 300;
+const MOST_PARTS: usize = 3000;
 
+// Every case of a table.
 pub(crate) fn run(table: &[u8]) {
     let mut model = MOST_PARTS;
     let mut k: usize = 0;
     while k < MOST_PARTS {
-        let call = part(table, k);
-        if call.len() == 0 {
+        let letter = letter_of(part(table, k));
+        if letter == b'\n' {
             return;
         }
-        if call[0] == b'm' {
+        if letter == b'm' {
             model = k + 2;
         } else {
-            case(
-                call[0],
+            asked(
+                letter,
                 part(table, k + 1),
                 part(table, model),
                 part(table, k + 2),

@@ -1,12 +1,10 @@
 // Judging asked and told.
 use crate::base;
 use crate::lines;
-use crate::lines::BOTH;
+use crate::lines::JUDGE;
 use crate::lines::NIGHT;
 use crate::lines::REST;
-use crate::lines::TEXT;
 use crate::lines::VERDICT_SPACE;
-use crate::reading;
 use crate::spaces;
 use crate::spaces::PATTERN;
 use ctl::Judged;
@@ -69,7 +67,7 @@ pub(crate) fn told(call: usize, name: &[u8], sheet: Sheet, refusal: u8, space: &
         lines::say(words, 0);
         return;
     }
-    if call != TEXT {
+    if call == JUDGE {
         lines::count(words, 1, refusal as usize);
     }
     let end = spaces::parts(sheet.nodes, sheet.states);
@@ -81,8 +79,8 @@ pub(crate) fn told(call: usize, name: &[u8], sheet: Sheet, refusal: u8, space: &
     lines::kept(what, spaces::bytes_kept(space, end));
 }
 
-// The two public calls asked, judging with so much room.
-fn judged(
+// The two public calls asked of a model, judging with so much room.
+pub(crate) fn asked(
     call: usize,
     name: &[u8],
     states: usize,
@@ -109,48 +107,10 @@ fn judged(
     told(call, name, sheet, examined.refusal, &space);
 }
 
-// A model judged with so much room, and, for both, printed as text and judged again.
-pub(crate) fn asked(
-    call: usize,
-    name: &[u8],
-    states: usize,
-    atoms: usize,
-    labels: &[u8],
-    initial: &[u8],
-    transitions: &[u16],
-    nodes: &[u16],
-    room: usize,
-) {
-    judged(
-        call,
-        name,
-        states,
-        atoms,
-        labels,
-        initial,
-        transitions,
-        nodes,
-        room,
-    );
-    if call == BOTH {
-        reading::printed(
-            name,
-            states,
-            atoms,
-            labels,
-            initial,
-            transitions,
-            nodes,
-            room,
-        );
-    }
-}
-
-// The model that numbers hold, asked; a night has all the room there may be.
+// The model that numbers hold, asked.
 pub(crate) fn numbered(call: usize, name: &[u8], numbers: &[u16]) {
     let all_labels = base::bytes(numbers, b'L');
     let all_initial = base::bytes(numbers, b'I');
-    let room = base::one(numbers, b'V');
     asked(
         call,
         name,
@@ -160,6 +120,6 @@ pub(crate) fn numbered(call: usize, name: &[u8], numbers: &[u16]) {
         spaces::bytes(&all_initial, base::one(numbers, b'I')),
         base::entries(numbers, b'T'),
         base::entries(numbers, b'N'),
-        if call == NIGHT { MOST_VERDICTS } else { room },
+        base::one(numbers, b'V'),
     );
 }

@@ -1,9 +1,7 @@
-// As many states, atoms, transitions and nodes as there may be, and no atom.
+// As many states, atoms, transitions and nodes as there may be.
 use crate::asking;
-use crate::cases::run;
 use crate::judging;
-use crate::lines::BOTH;
-use crate::lines::NIGHT;
+use crate::lines::JUDGE;
 use crate::spaces;
 use values::limits::MOST_ATOMS;
 use values::limits::MOST_NODE_NUMBERS;
@@ -97,43 +95,8 @@ fn fill_labels(labels: &mut [u8]) {
     }
 }
 
-// A model asked twice: as a night, and both ways.
-fn twice(
-    name: &[u8],
-    states: usize,
-    atoms: usize,
-    labels: &[u8],
-    initial: &[u8],
-    transitions: &[u16],
-    nodes: &[u16],
-    room: usize,
-) {
-    judging::asked(
-        NIGHT,
-        name,
-        states,
-        atoms,
-        labels,
-        initial,
-        transitions,
-        nodes,
-        room,
-    );
-    judging::asked(
-        BOTH,
-        name,
-        states,
-        atoms,
-        labels,
-        initial,
-        transitions,
-        nodes,
-        room,
-    );
-}
-
 // As many states, transitions and nodes as there may be, all nodes but two untils.
-pub(crate) fn largest() {
+pub(crate) fn largest(call: usize, name: &[u8]) {
     let mut transitions = [0u16; MOST_TRANSITION_NUMBERS];
     let mut labels = [0u8; 2 * MOST_STATES];
     let mut nodes = [0u16; MOST_NODE_NUMBERS];
@@ -141,8 +104,9 @@ pub(crate) fn largest() {
     fill(&mut transitions, TRANSITIONS);
     fill_labels(&mut labels);
     fill(&mut nodes, UNTILS);
-    twice(
-        b"largest",
+    judging::asked(
+        call,
+        name,
         MOST_STATES,
         2,
         &labels,
@@ -163,25 +127,24 @@ fn in_turn(name: &[u8], transitions: &[u16], left: &[u8], right: &[u8]) {
 }
 
 // The same states and transitions asked for paths: from state 0 three states on at each step, and no other way.
-pub(crate) fn longest() {
+pub(crate) fn longest(name: &[u8]) {
     let mut transitions = [0u16; MOST_TRANSITION_NUMBERS];
     let left = [2u8; MOST_STATES];
     let mut right = [0u8; MOST_STATES];
     fill(&mut transitions, TRANSITIONS);
     right[MOST_STATES - 1] = 2;
-    in_turn(b"largest", &transitions, &left, &right);
+    in_turn(name, &transitions, &left, &right);
 }
 
 // One state with as many atoms as there may be, the last of them unknown: so is the conjunction of all.
-// And no atom: the constant true at one state.
-pub(crate) fn most_atoms() {
+pub(crate) fn most_atoms(name: &[u8]) {
     let mut labels = [2u8; MOST_ATOMS];
     let mut nodes = [0u16; 6 * MOST_ATOMS];
     labels[MOST_ATOMS - 1] = 1;
     fill(&mut nodes, CONJUNCTS);
     judging::asked(
-        BOTH,
-        b"the most atoms",
+        JUDGE,
+        name,
         1,
         MOST_ATOMS,
         &labels,
@@ -190,5 +153,4 @@ pub(crate) fn most_atoms() {
         &nodes,
         2 * MOST_ATOMS,
     );
-    run(b"J|no atoms|S=1,A=0,L=0,I=1,1,T=2,0,0,N=3,0,0,0,V=1,|");
 }

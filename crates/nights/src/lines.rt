@@ -2,7 +2,7 @@
 use crate::table::part;
 use libc::STDOUT_FILENO;
 
-// The calls: of a text, of a path question, of a model. Both is Judge and then the printed text; a night is told in short.
+// The calls; a night is told in short, and names none.
 pub(crate) const READ: usize = 0;
 
 pub(crate) const TEXT: usize = 1;
@@ -15,9 +15,7 @@ pub(crate) const CHECK: usize = 4;
 
 pub(crate) const JUDGE: usize = 5;
 
-pub(crate) const BOTH: usize = 6;
-
-pub(crate) const NIGHT: usize = 7;
+pub(crate) const NIGHT: usize = 6;
 
 // What is lent, whole or behind what was written.
 pub(crate) const REST: usize = 0;
@@ -47,10 +45,10 @@ pub(crate) fn count(words: &[u8], k: usize, number: usize) {
 
 // Which call a line is of, and its case.
 pub(crate) fn case(call: usize, name: &[u8]) {
-    let words = b"read, |text, |first, |next, |check, |judge, |judge, ||: |";
+    let words = b"read, |text, |first, |next, |check, |judge, ||: |";
     say(words, call);
     write(name);
-    say(words, 8);
+    say(words, 7);
 }
 
 pub(crate) fn answer(number: u8) {

@@ -1,35 +1,24 @@
-// The nights that are run, one line a case and call, held to the stored output.
+// The nights that are run: cases from standard input, one line a case and call, held to the stored output.
 //
-//   written    cases 2 to 6 and 11, and cases beside them
-//   largest    as much of everything as there may be, and no atom
-//   refused    each cause of a refusal of judging
-//   questions  each cause of a refusal of the path calls
-//   texts      each cause of a refusal of reading
-//   cases, table, base         tables of cases, their parts, the model that they change
+//   cases      what a case is, and which call it asks
+//   base       the model and the path question that the cases change, by codes
+//   largest    as much of everything as there may be
 //   judging, asking, reading   the calls asked and told
-//   print, lines, spaces       a model as text, the words of a line, what was lent compared
+//   table, lines, spaces       the parts of a table, the words of a line, what was lent compared
 mod asking;
 mod base;
 mod cases;
 mod judging;
 mod largest;
 mod lines;
-mod print;
-mod questions;
 mod reading;
-mod refused;
 mod spaces;
 mod table;
-mod texts;
-mod written;
+
+use libc::STDIN_FILENO;
 
 fn main() {
-    written::nights();
-    written::beside();
-    largest::largest();
-    largest::longest();
-    largest::most_atoms();
-    refused::judging();
-    questions::paths();
-    texts::texts();
+    let mut buffer = io::large_buffer();
+    let n = io::read_full(STDIN_FILENO, &mut buffer);
+    cases::run(&buffer[..n]);
 }

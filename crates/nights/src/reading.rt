@@ -5,7 +5,6 @@ use crate::lines::READ;
 use crate::lines::REST;
 use crate::lines::TABLES;
 use crate::lines::TEXT;
-use crate::print;
 use crate::spaces;
 use crate::spaces::PATTERN;
 use crate::spaces::PATTERN_NUMBER;
@@ -13,31 +12,32 @@ use text::Read;
 use values::limits::MOST_LABELS;
 use values::limits::MOST_NODE_NUMBERS;
 use values::limits::MOST_STATES;
+use values::limits::MOST_TEXT;
 use values::limits::MOST_TRANSITION_NUMBERS;
 use values::limits::MOST_VERDICTS;
 ghost use Prim.Native.Nat.{_<_, _≤_};
 
-// The tables, one of which may be too short, and none.
+// The tables, of which one may be too short, and none.
 pub(crate) const NONE: usize = 0;
 
-pub(crate) const LABELS: usize = 1;
+const LABELS: usize = 1;
 
-pub(crate) const INITIAL: usize = 2;
+const INITIAL: usize = 2;
 
-pub(crate) const TRANSITIONS: usize = 3;
+const TRANSITIONS: usize = 3;
 
 pub(crate) const NODES: usize = 4;
 
 // What reading answered: 0 and the counts, or the number of the refusal and zeros.
-pub(crate) struct Counts {
-    pub(crate) number: u8,
-    pub(crate) states: usize,
-    pub(crate) atoms: usize,
-    pub(crate) transitions: usize,
-    pub(crate) nodes: usize,
+struct Counts {
+    number: u8,
+    states: usize,
+    atoms: usize,
+    transitions: usize,
+    nodes: usize,
 }
 
-pub(crate) fn counted(answer: Read) -> Counts {
+fn counted(answer: Read) -> Counts {
     match answer {
         Read::Refused(number) => Counts {
             number,
@@ -134,17 +134,25 @@ pub(crate) fn asked(name: &[u8], text: &[u8], room: usize) {
     judging::told(TEXT, name, sheet, 0, &space);
 }
 
-// A model printed as text, and asked.
-pub(crate) fn printed(
-    name: &[u8],
-    states: usize,
-    atoms: usize,
-    labels: &[u8],
-    initial: &[u8],
-    transitions: &[u16],
-    nodes: &[u16],
-    room: usize,
-) {
-    let page = print::model(states, atoms, labels, initial, transitions, nodes);
-    asked(name, spaces::bytes(&page.text, page.end), room);
+// A text with line feeds behind it.
+fn page(text: &[u8]) -> [u8; MOST_TEXT + 1] {
+    let mut page = [b'\n'; MOST_TEXT + 1];
+    let n = spaces::least(text.len(), MOST_TEXT + 1);
+    let mut i: usize = 0;
+    while i < n {
+        page[i] = text[i];
+        i += 1;
+    }
+    page
+}
+
+// So many bytes of a text with line feeds behind it, with one table too short or none.
+pub(crate) fn padded(name: &[u8], text: &[u8], size: usize, short: usize) {
+    let page = page(text);
+    let front = spaces::bytes(&page, size);
+    if short == NONE {
+        asked(name, front, MOST_VERDICTS);
+    } else {
+        read(name, front, short);
+    }
 }

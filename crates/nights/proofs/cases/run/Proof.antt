@@ -8,7 +8,7 @@ abbrev Inv-loop : tie.InvT-loop
 Inv-loop table model₀ k₀ model k = Unit {0}
 
 abbrev μ-loop : tie.MeasureT-loop
-μ-loop table model₀ k₀ model k = 300 - k
+μ-loop table model₀ k₀ model k = 3000 - k
 
 loop-holds : tie.Need-loop-holds Inv-loop μ-loop
 loop-holds c = search needs
@@ -16,17 +16,14 @@ loop-holds c = search needs
 part-requires : tie.Need-part-requires Inv-loop μ-loop
 part-requires c κs = search needs
 
+letter-of-requires : tie.Need-letter-of-requires Inv-loop μ-loop
+letter-of-requires c κs = search needs
+
 returns : tie.Need-returns Inv-loop μ-loop
 returns c = search needs
 
-shared-slice-read-if2 : tie.Need-shared-slice-read-if2 Inv-loop μ-loop
-shared-slice-read-if2 c = search needs
-
 add-model : tie.Need-add-model Inv-loop μ-loop
 add-model c = search needs
-
-shared-slice-read-case : tie.Need-shared-slice-read-case Inv-loop μ-loop
-shared-slice-read-case c = search needs
 
 add-part : tie.Need-add-part Inv-loop μ-loop
 add-part c = search needs
@@ -43,8 +40,8 @@ add-part-2 c = search needs
 part-requires-4 : tie.Need-part-requires-4 Inv-loop μ-loop
 part-requires-4 c κs = search needs
 
-case-requires : tie.Need-case-requires Inv-loop μ-loop
-case-requires c κs = search needs
+asked-requires : tie.Need-asked-requires Inv-loop μ-loop
+asked-requires c κs = search needs
 
 add-k : tie.Need-add-k Inv-loop μ-loop
 add-k c = search needs
@@ -66,16 +63,15 @@ run-spec =
     μ-loop
     loop-holds
     part-requires
+    letter-of-requires
     returns
-    shared-slice-read-if2
     add-model
-    shared-slice-read-case
     add-part
     part-requires-2
     part-requires-3
     add-part-2
     part-requires-4
-    case-requires
+    asked-requires
     add-k
     loop-less
     loop-again

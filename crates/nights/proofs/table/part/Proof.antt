@@ -6,16 +6,16 @@ use Rattle.nights.proofs.table.part.Statement.{statement}
 use Rattle.nights.proofs.table.part.Tie as tie
 
 abbrev Inv-loop : tie.InvT-loop
-Inv-loop table k at₀ i₀ at i = at ≤ length table
+Inv-loop table k n at₀ i₀ at i = at ≤ length table
 
 abbrev μ-loop : tie.MeasureT-loop
-μ-loop table k at₀ i₀ at i = k - i
+μ-loop table k n at₀ i₀ at i = k - i
 
 loop-holds : tie.Need-loop-holds Inv-loop μ-loop
 loop-holds c = search needs
 
-bar-requires : tie.Need-bar-requires Inv-loop μ-loop
-bar-requires c κs = search needs
+find-requires : tie.Need-find-requires Inv-loop μ-loop
+find-requires c κs = search needs
 
 add-least : tie.Need-add-least Inv-loop μ-loop
 add-least c = search needs
@@ -32,8 +32,8 @@ loop-less c = search needs
 loop-again : tie.Need-loop-again Inv-loop μ-loop
 loop-again c = search needs
 
-bar-requires-2 : tie.Need-bar-requires-2 Inv-loop μ-loop
-bar-requires-2 c κs = search needs
+find-requires-2 : tie.Need-find-requires-2 Inv-loop μ-loop
+find-requires-2 c κs = search needs
 
 sub-result : tie.Need-sub-result Inv-loop μ-loop
 sub-result c = search needs
@@ -54,13 +54,13 @@ part-spec =
     Inv-loop
     μ-loop
     loop-holds
-    bar-requires
+    find-requires
     add-least
     least-requires
     add-i
     loop-less
     loop-again
-    bar-requires-2
+    find-requires-2
     sub-result
     part-result-start
     part-result-end

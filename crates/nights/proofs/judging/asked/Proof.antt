@@ -6,8 +6,8 @@ use lib.Seq.{length-take-le}
 use Rattle.values.specs.Limits.{mostStates, mostNodes}
 use Rattle.nights.proofs.Fronts.{back}
 use borrow.Author.Needs.{needs}
-use Rattle.nights.proofs.judging.judged.Statement.{statement}
-use Rattle.nights.proofs.judging.judged.Tie as tie
+use Rattle.nights.proofs.judging.asked.Statement.{statement}
+use Rattle.nights.proofs.judging.asked.Tie as tie
 
 least-requires : tie.Need-least-requires
 least-requires c κs = search needs
@@ -38,8 +38,8 @@ told-requires c κs = search needs
 returns : tie.Need-returns
 returns c = search needs
 
-pub judged-spec : {M : Type 1} → statement M
-judged-spec =
+pub asked-spec : {M : Type 1} → statement M
+asked-spec =
     tie.close
     (tie.spec
     least-requires
