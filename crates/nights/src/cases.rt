@@ -3,6 +3,7 @@
 //
 //   j        judged, and asked for its refusal; n told in short, as a night
 //   L l o    the same of the largest model, and in short; of the most atoms
+//   k        no call: the limits in force
 //   F N C    First, Next, Check; * the three in turn, p of the largest model
 //   t        a text read, and judged with the model's room; 1 2 3 4 read alone, one of the tables one entry short
 //   u v w    a text with line feeds up to the limit; one beyond it; the same read alone, the nodes one short
@@ -11,6 +12,7 @@ use crate::asking;
 use crate::base;
 use crate::judging;
 use crate::largest;
+use crate::lines;
 use crate::lines::CHECK;
 use crate::lines::FIRST;
 use crate::lines::JUDGE;
@@ -54,6 +56,7 @@ fn asked(letter: u8, name: &[u8], model: &[u8], code: &[u8]) {
         b'l' => largest::largest(NIGHT, name),
         b'L' => largest::largest(JUDGE, name),
         b'o' => largest::most_atoms(name),
+        b'k' => lines::limits(),
         b'p' => largest::longest(name),
         b'n' | b'j' | b'F' | b'N' | b'C' | b'*' => {
             let numbers = base::changed(model, code);

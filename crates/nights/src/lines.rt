@@ -43,6 +43,19 @@ pub(crate) fn count(words: &[u8], k: usize, number: usize) {
     io::print_decimal(STDOUT_FILENO, number as u64);
 }
 
+// The limits in force, in the order of the rules' table.
+pub(crate) fn limits() {
+    let most = values::limits::in_force();
+    let words = b"limits: states=| atoms=| transitions=| nodes=| text=| kind=|\n|";
+    count(words, 0, most.states);
+    count(words, 1, most.atoms);
+    count(words, 2, most.transitions);
+    count(words, 3, most.nodes);
+    count(words, 4, most.text);
+    count(words, 5, most.kind as usize);
+    say(words, 6);
+}
+
 // Which call a line is of, and its case.
 pub(crate) fn case(call: usize, name: &[u8]) {
     let words = b"read, |text, |first, |next, |check, |judge, ||: |";
