@@ -1,0 +1,54 @@
+# How ./desk and ./witness run their program and tell its answer.
+# shellcheck shell=sh disable=SC2154,SC2034 # names that another of these files sets or reads
+
+# Programs are for x86-64; on another processor the kit has an emulator. They get no environment: it could only mislead loader and emulator.
+start() { # ARGUMENTS
+    emulator=$tools/bin/qemu-x86_64
+    [ -x "$emulator" ] || emulator=''
+    exec env -i ${emulator:+"$emulator"} "$tools/lib/ld-linux-x86-64.so.2" --library-path "$tools/lib" "$root/target/bin/$name" "$@"
+}
+
+# The answer passes on as it comes; its first line is kept in $first and its last in $last. Nothing counts as answered that wasn't written.
+run() { # ARGUMENTS
+    mkfifo "$own/raw" "$own/passed" || die 3 "the temporary folder $scratch can't be used"
+    start "$@" <"$model" >"$own/raw" &
+    program=$!
+    kept=$own/lines awk '{ print; last = $0 } NR == 1 { first = $0 } END { print first "\n" last >ENVIRON["kept"] }' <"$own/raw" >"$own/passed" &
+    passer=$!
+    cat <"$own/passed" &
+    writer=$!
+    at_work="$program $passer $writer"
+    wait "$writer"
+    written=$?
+    # what can't be written any more needn't be found
+    [ "$written" -eq 0 ] || kill -s TERM "$program" "$passer" 2>/dev/null
+    wait "$passer"
+    wait "$program"
+    ran=$?
+    at_work=''
+    [ "$written" -ne 141 ] || exit 141 # who read the answer has gone
+    [ "$written" -eq 0 ] || die 3 "the answer can't be written"
+    [ "$ran" -eq 0 ] || die 3 "the program failed with status $ran"
+    { IFS= read -r first && IFS= read -r last; } <"$own/lines"
+    [ -n "$first" ] || die 3 "the program wrote no answer"
+}
+
+# What a number means, and what it was in this model.
+explain() { # NUMBER [AWK-SETTINGS]
+    number=$1
+    shift
+    words=$(rule Refusals "$number")
+    say "refused with $number: ${words:-docs/RULES.md has no such number}"
+    cause=$(find_cause "$number" "$@")
+    [ -z "$cause" ] || say "$cause"
+}
+
+find_cause() { # NUMBER [AWK-SETTINGS]
+    number=$1
+    shift
+    ended=$(tail -c 1 <"$model" | wc -l)
+    size=$(wc -c <"$model")
+    tr '\000' '?' <"$model" | awk -v number="$number" -v ended="$ended" -v size="$size" \
+        -v most_states="$(most states)" -v most_atoms="$(most atoms)" -v most_transitions="$(most transitions)" -v most_nodes="$(most nodes)" \
+        -v most_text="$(most text)" -v most_kind="$(most kind)" "$@" -f "$root/scripts/cause.awk"
+}

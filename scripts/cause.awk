@@ -1,0 +1,102 @@
+# What a refusal's number was in this model: reads the model's text as far as its form holds and prints one line, or none where nothing is
+# found. It serves the messages of ./desk and ./witness alone; what is judged or refused, the programs say.
+# Set before: number, ended (1 where the text ends in a line feed), size (bytes), most_.. (the limits); node or start for a path question.
+function is_number(s) { return s ~ /^(0|[1-9][0-9]*)$/ && length(s) <= 5 && s + 0 <= 65535 }
+function are_numbers(s, n, part, i) {
+    if (split(s, part, ",") != n) return 0
+    for (i = 1; i <= n; i++) if (!is_number(part[i])) return 0
+    return 1
+}
+function are_signs(s, set, n) { return length(s) == n && s !~ ("[^" set "]") }
+
+# the parts of a text in their order, and what a line of each has behind its key
+function due(at) {
+    if (at == 3) return "init= and one digit, 0 or 1, for each state (" count["states"] ")"
+    if (at == 4) return "label= and one letter, T, U or F, for each atom (" count["atoms"] ")"
+    if (at == 6) return "edge= and two numbers with a comma between them"
+    if (at == 8) return "node= and three numbers with commas between them"
+    if (at == 9) return "nothing after the last node line"
+    return key[at] "= and a number (decimal, up to 65535, no leading zeros)"
+}
+function fits(at, value) {
+    if (at == 3) return are_signs(value, "01", count["states"])
+    if (at == 4) return are_signs(value, "TUF", count["atoms"])
+    if (at == 6) return are_numbers(value, 2)
+    if (at == 8) return are_numbers(value, 3)
+    return is_number(value)
+}
+function lines_of(at) { return at == 4 ? count["states"] : at == 6 ? count["edges"] : at == 8 ? count["nodes"] : 1 }
+
+# one cause a number; the first that is met is kept
+function found(words) { if (cause == "") cause = words }
+function range(least, most, what, here) { return (least ? least " to " : "at most ") most " " what ", here " here }
+function below(count, what) { return count > 1 ? what " are 0 to " count - 1 : count == 1 ? "only " what " is 0" : "there are no " what }
+function meet_count(at, value) {
+    count[key[at]] = value + 0
+    if (at == 1 && number == 1) found(range(1, most_states, "states", value))
+    if (at == 2 && number == 2) found(range(0, most_atoms, "atoms", value))
+    if (at == 5 && number == 6) found(range(1, most_transitions, "transitions", value))
+    if (at == 7 && number == 10) found(range(1, most_nodes, "nodes", value))
+}
+function meet_edge(value, part) {
+    split(value, part, ",")
+    if (number == 7 && (part[1] + 0 >= count["states"] || part[2] + 0 >= count["states"]))
+        found("line " NR ", edge=" value ": states are 0 to " count["states"] - 1)
+    if (number == 8 && last_edge != "" && (part[1] + 0 < from || part[1] + 0 == from && part[2] + 0 <= to))
+        found("line " NR ", edge=" value ": it doesn't come after edge=" last_edge "; transitions ascend by from and then by to, each once")
+    from = part[1] + 0; to = part[2] + 0; last_edge = value
+    leaves[from] = 1
+}
+function meet_node(value, part, this, i, use) {
+    split(value, part, ",")
+    this = "line " NR ", node=" value " (node " nodes "): "
+    kind[nodes] = part[1] + 0
+    if (number == 11 && kind[nodes] > most_kind + 0) found(this "kinds are 0 to " most_kind)
+    if (number == 12 && kind[nodes] in uses)
+        for (i = 1; i <= 2; i++) {
+            use = substr(uses[kind[nodes]], i, 1)
+            if (use == "n" && part[i + 1] + 0 >= nodes) found(this part[i + 1] " is no earlier node; " below(nodes, "earlier nodes"))
+            if (use == "a" && part[i + 1] + 0 >= count["atoms"]) found(this part[i + 1] " is no atom; " below(count["atoms"], "atoms"))
+            if (use == "-" && part[i + 1] + 0 > 0) found(this "the number " part[i + 1] " is unused here and must be 0")
+        }
+    nodes++
+}
+
+BEGIN {
+    split("states atoms init label edges edge nodes node", key, " ")
+    # what a kind does with its two numbers: an atom, a node, nothing
+    split("-- a- n- nn n- nn nn", list, " ")
+    for (i in list) uses[i - 1] = list[i]
+    nodes = 0; at = 1; left = 1
+}
+{
+    head = key[at] "="
+    value = substr($0, length(head) + 1)
+    if (at == 9 || substr($0, 1, length(head)) != head || !fits(at, value)) { bad = NR; broken = $0; exit }
+    if (at == 3 && number == 5 && value !~ /1/) found("line " NR ", init=" value ": no state is initial")
+    else if (at == 6) meet_edge(value)
+    else if (at == 8) meet_node(value)
+    else if (at != 3 && at != 4) meet_count(at, value)
+    if (--left > 0) next
+    do at++; while (at < 9 && lines_of(at) == 0)
+    left = lines_of(at)
+}
+END {
+    if (number == 9) for (s = 0; s < count["states"]; s++) if (!(s in leaves)) found("state " s " has no transition out")
+    if (number == 15) found(below(count["states"], "states") ", here " start)
+    if (number == 18) found("at most " most_text " bytes, here " size)
+    if (number == "node") {
+        for (i = 0; i < nodes; i++) if (kind[i] == 5) untils = untils (untils == "" ? "" : ", ") i
+        if (node + 0 >= nodes) found(below(nodes, "nodes") ", here " node)
+        else found("node " node " is of kind " kind[node + 0] "; exists-until nodes (kind 5) of this model: " (untils == "" ? "none" : untils))
+    }
+    if (number == 19) {
+        if (bad && broken ~ /\r$/) found("line " bad " ends in a carriage return; lines end in a line feed alone")
+        else if (bad && (at == 3 || at == 4) && substr(broken, 1, length(head)) == head && length(value) != count[at == 3 ? "states" : "atoms"])
+            found("line " bad " breaks the form; due there: " due(at) ", here " length(value))
+        else if (bad) found("line " bad " breaks the form; due there: " due(at))
+        else if (at < 9) found(NR > 0 && !ended ? "line " NR " isn't ended by a line feed" : "the text ends before line " NR + 1 "; due there: " due(at))
+        else if (!ended) found("line " NR " isn't ended by a line feed")
+    }
+    if (cause != "") print cause
+}
