@@ -12,16 +12,15 @@ start() { # ARGUMENTS
 run() { # ARGUMENTS
     mkfifo "$own/raw" "$own/passed" || die 3 "the temporary folder $scratch can't be used"
     start "$@" <"$model" >"$own/raw" &
-    program=$!
+    program=$! at_work=$!
     kept=$own/lines awk '{ print; last = $0 } NR == 1 { first = $0 } END { print first "\n" last >ENVIRON["kept"] }' <"$own/raw" >"$own/passed" &
-    passer=$!
+    passer=$! at_work="$at_work $!"
     cat <"$own/passed" &
-    writer=$!
-    at_work="$program $passer $writer"
+    writer=$! at_work="$at_work $!"
     wait "$writer"
     written=$?
     # what can't be written any more needn't be found
-    [ "$written" -eq 0 ] || kill -s TERM "$program" "$passer" 2>/dev/null
+    [ "$written" -eq 0 ] || kill -s KILL "$program" "$passer" 2>/dev/null
     wait "$passer"
     wait "$program"
     ran=$?

@@ -24,24 +24,13 @@ needs_output() { [ "$output" = open ] || die 3 "standard output is closed"; }
 # What is ended and removed however the script ends: processes, the prover's process group, the temporary folder.
 at_work='' group='' scratch=''
 
+# None of them has anything to put in order: what the prover leaves half done has no stamp and is proved again.
+# shellcheck disable=SC2086 # lists of numbers
 clear_up() {
-    # shellcheck disable=SC2086 # a list of numbers
-    [ -z "$at_work" ] || kill -s TERM $at_work 2>/dev/null
-    [ -z "$group" ] || end_group
+    [ -z "$at_work" ] || kill -s KILL $at_work 2>/dev/null
+    [ -z "$group" ] || kill -s KILL -- "-$group" 2>/dev/null || kill -s KILL "$group" 2>/dev/null
+    [ -z "$at_work$group" ] || wait $at_work $group 2>/dev/null
     [ -z "$scratch" ] || rm -rf "$scratch"
-}
-
-# A prover that doesn't end when it is asked to is killed after two seconds.
-end_group() {
-    kill -s TERM -- "-$group" 2>/dev/null || return 0
-    wait "$group" 2>/dev/null
-    tries=20
-    while [ "$tries" -gt 0 ] && kill -s 0 -- "-$group" 2>/dev/null; do
-        sleep 0.1
-        tries=$((tries - 1))
-    done
-    kill -s KILL -- "-$group" 2>/dev/null
-    return 0
 }
 
 # After a signal all is cleared up, and who called sees the signal itself.
