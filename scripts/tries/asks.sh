@@ -10,25 +10,26 @@ says() { grep -qF -- "$1" "$err" || { echo "doesn't say: $1; says: $(tail -n 2 "
 wrote() { [ "$(cat "$out")" = "$1" ] || { echo "wrote: $(head -c 200 "$out" | tr '\n' ' ')"; return 1; }; }
 no_scratch() { [ -z "$(ls -A "$room/tmp")" ] || { echo "left: $(find "$room/tmp" | head -n 3 | tr '\n' ' ')"; rm -rf "$room"/tmp/*; return 1; }; }
 builds() { [ "$(grep -c '^check$' "$room/calls")" = "$1" ] || { echo "$(grep -c '^check$' "$room/calls") builds and not $1"; return 1; }; }
-at_work() { # processes of a call: by the mark in their environment, or by their words
+at_work() { # the processes of a call, by the mark in their environment or by their words: number and words
     for process in /proc/[0-9]*; do
         number=${process#/proc/}
         case $number in "$$" | "$BASHPID") continue ;; esac
-        words=$(tr '\0' ' ' <"$process/cmdline" 2>/dev/null) || continue
+        words=$(tr '\0' ' ' <"$process/cmdline") || continue
         case $words in
-            *faults* | '') ;;
-            *"$house"*) echo "$words" ;;
-            *) tr '\0' '\n' <"$process/environ" 2>/dev/null | grep -qxF "CALL_MARK=$room" && echo "$words" ;;
+            *scripts/faults* | '') ;;
+            *"$room"*) echo "$number $words" ;;
+            *) tr '\0' '\n' <"$process/environ" | grep -qxF "CALL_MARK=$room" && echo "$number $words" ;;
         esac
     done 2>/dev/null
 }
+end_all() { at_work | while read -r number _; do kill -s KILL "$number" 2>/dev/null; done; }
 none_at_work() {
     for _ in 1 2 3 4 5 6 7 8 9 10; do
         [ -n "$(at_work)" ] || return 0
         sleep 0.3
     done
     echo "still at work: $(at_work | head -n 2 | cut -c 1-150 | tr '\n' ' ')"
-    pkill -KILL -f "$room/tmp|$house"
+    end_all
     return 1
 }
 good() { status 0 && wrote "$answer" && no_scratch; }
