@@ -22,7 +22,7 @@ interrupted() { # SIGNAL STATUS, during a build: Ctrl-C reaches the whole group,
     CALL_MARK=$room "$desk" good >"$out" 2>"$err" &
     set +m
     for _ in $(seq 100); do
-        at_work | grep -q 'rattle build' && break
+        [[ $(at_work) != *'rattle build'* ]] || break
         sleep 0.1
     done
     sleep 0.5
