@@ -17,12 +17,12 @@ run() { # ARGUMENTS
     passer=$! at_work="$at_work $!"
     cat <"$own/passed" &
     writer=$! at_work="$at_work $!"
-    wait "$writer"
+    wait "$writer" 2>/dev/null
     written=$?
     # what can't be written any more needn't be found
     [ "$written" -eq 0 ] || kill -s KILL "$program" "$passer" 2>/dev/null
-    wait "$passer"
-    wait "$program"
+    wait "$passer" 2>/dev/null
+    wait "$program" 2>/dev/null
     ran=$?
     at_work=''
     [ "$written" -ne 141 ] || exit 141 # who read the answer has gone
@@ -47,6 +47,7 @@ find_cause() { # NUMBER [AWK-SETTINGS]
     shift
     ended=$(tail -c 1 <"$model" | wc -l)
     size=$(wc -c <"$model")
+    [ "$size" -lt "$most_kept" ] || size="$size or more"
     tr '\000' '?' <"$model" | awk -v number="$number" -v ended="$ended" -v size="$size" \
         -v most_states="$(most states)" -v most_atoms="$(most atoms)" -v most_transitions="$(most transitions)" -v most_nodes="$(most nodes)" \
         -v most_text="$(most text)" -v most_kind="$(most kind)" "$@" -f "$root/scripts/cause.awk"

@@ -18,7 +18,7 @@ at_work() { # the processes of a call, by the mark in their environment or by th
         case $words in
             *scripts/faults* | '') ;;
             *"$room"*) echo "$number $words" ;;
-            *) tr '\0' '\n' <"$process/environ" | grep -qxF "CALL_MARK=$room" && echo "$number $words" ;;
+            *) grep -qzxF "CALL_MARK=$room" "$process/environ" && echo "$number $words" ;;
         esac
     done 2>/dev/null
 }
