@@ -10,24 +10,29 @@ start() { # ARGUMENTS
 
 # The answer passes on as it comes; its first line is kept in $first and its last in $last. Nothing counts as answered that wasn't written.
 run() { # ARGUMENTS
-    mkfifo "$own/raw" "$own/passed" || die 3 "the temporary folder $scratch can't be used"
+    mkfifo "$own/raw" "$own/passed" || no_room
+    starting=yes
     start "$@" <"$model" >"$own/raw" &
-    program=$! at_work=$!
+    program=$!
     kept=$own/lines awk '{ print; last = $0 } NR == 1 { first = $0 } END { print first "\n" last >ENVIRON["kept"] }' <"$own/raw" >"$own/passed" &
-    passer=$! at_work="$at_work $!"
+    passer=$!
     cat <"$own/passed" &
-    writer=$! at_work="$at_work $!"
+    writer=$!
+    at_work="$program $passer $writer"
+    started
     wait "$writer" 2>/dev/null
     written=$?
     # what can't be written any more needn't be found
     [ "$written" -eq 0 ] || kill -s KILL "$program" "$passer" 2>/dev/null
     wait "$passer" 2>/dev/null
+    passed=$?
     wait "$program" 2>/dev/null
     ran=$?
     at_work=''
     [ "$written" -ne 141 ] || exit 141 # who read the answer has gone
     [ "$written" -eq 0 ] || die 3 "the answer can't be written"
     [ "$ran" -eq 0 ] || die 3 "the program failed with status $ran"
+    { [ "$passed" -eq 0 ] && [ -s "$own/lines" ]; } || no_room
     { IFS= read -r first && IFS= read -r last; } <"$own/lines"
     [ -n "$first" ] || die 3 "the program wrote no answer"
 }

@@ -5,14 +5,16 @@ record=$root/target/built
 
 find_kit() {
     command -v rt >/dev/null 2>&1 || die 3 "rt isn't there: install the Rattle kit and put its folder bin on the PATH"
-    { guide=$(rt doc) && kit=$(rt version); } || die 3 "rt doesn't say where its kit is"
-    tools=$(dirname -- "$(dirname -- "$guide")")/on/$(uname -m)/toolchain
+    { guide=$(rt doc) && kit=$(rt version) && machine=$(uname -m); } || die 3 "rt doesn't say where its kit is"
+    tools=${guide%/*}
+    tools=${tools%/*}/on/$machine/toolchain
 }
 
-# What a build is made from: the kit, the machine and every file of the crates, whatever its date.
-sources() {
-    echo "$kit, $(uname -m)"
-    (cd -- "$root" && find crates.txt crates -name must-fail -prune -o -type f -exec sha256sum {} + | sort | sha256sum)
+# What a build is made from, in $sources: the kit, the machine and every file of the crates, whatever its date.
+read_sources() {
+    files=$(cd -- "$root" && find crates.txt crates -name must-fail -prune -o -type f -exec sha256sum {} +) || die 3 "the sources can't be read"
+    sum=$(printf '%s\n' "$files" | sort | sha256sum)
+    sources="$kit, $machine, ${sum%% *}"
 }
 
 sums() { # PROGRAMS
@@ -20,7 +22,13 @@ sums() { # PROGRAMS
 }
 
 # The record of the last build says of which sources it was, and what the programs were then.
-current() { [ -f "$record" ] && [ "$(cat "$record")" = "$(sources && sums $programs)" ]; }
+current() {
+    read_sources
+    [ -f "$record" ] || return 1
+    was=$(cat "$record")
+    now=$(echo "$sources" && sums $programs)
+    [ "$was" = "$now" ]
+}
 
 # One call at a time builds in a checkout; the lock is the checkout's own folder, and falls with the last process that holds it.
 lock() {
@@ -31,8 +39,10 @@ lock() {
     fi
     flock -n 9 && return
     say "another call is proving and building here; this one waits for it"
+    starting=yes
     flock 9 &
     at_work=$!
+    started
     wait "$at_work" || say "the checkout can't be locked, so nothing keeps two calls from building at once"
     at_work=''
 }
@@ -55,7 +65,7 @@ crates_needed() {
 # What the prover says, kept, and how far it is, told crate by crate.
 tell_progress() {
     so_far=0
-    while IFS= read -r line; do
+    while IFS= read -r line || [ -n "$line" ]; do
         printf '%s\n' "$line" >>"$own/said"
         case $line in
             'rt: '*' proved (unchanged '*) so_far=$((so_far + 1)) ;;
@@ -80,23 +90,23 @@ build() {
     for program in $programs; do
         { sum=$(sums "$program") && grep -qxF "$sum" "$record" 2>/dev/null; } || rm -f "$root/target/stamp/$program"
     done
-    before=$(sources)
-    : >"$own/said"
-    mkfifo "$own/progress" || die 3 "the temporary folder $scratch can't be used"
+    mkfifo "$own/progress" || no_room
+    starting=yes
     (cd -- "$root" && TMPDIR=$scratch && export TMPDIR && exec setsid rt check $programs) </dev/null >"$own/progress" 2>&1 &
     group=$!
     tell_progress <"$own/progress" &
     at_work=$!
-    wait "$group"
+    started
+    wait "$group" 2>/dev/null
     built=$?
     group=''
-    wait "$at_work"
+    wait "$at_work" 2>/dev/null
     at_work=''
     if [ "$built" -ne 0 ] || ! now=$(sums $programs); then
         cat "$own/said" >&2
         die 3 "the programs aren't proved or can't be built; what the prover said stands above"
     fi
-    { printf '%s\n%s\n' "$before" "$now" >"$record.new" && mv "$record.new" "$record"; } || die 3 "$root/target can't be written"
+    { printf '%s\n%s\n' "$sources" "$now" >"$record.new" && mv "$record.new" "$record"; } 2>/dev/null || die 3 "$root/target can't be written"
 }
 
 # Once the lock is held it is looked again: whoever held it before may have built.

@@ -30,7 +30,7 @@ function lines_of(at) { return at == 4 ? count["states"] : at == 6 ? count["edge
 # one cause a number; the first that is met is kept
 function found(words) { if (cause == "") cause = words }
 function range(least, most, what, here) { return (least ? least " to " : "at most ") most " " what ", here " here }
-function below(count, what) { return count > 1 ? what " are 0 to " count - 1 : count == 1 ? "only " what " is 0" : "there are no " what }
+function below(count, what) { return count > 1 ? what " are 0 to " count - 1 : count == 1 ? "of " what " there is only 0" : "there are no " what }
 function meet_count(at, value) {
     count[key[at]] = value + 0
     if (at == 1 && number == 1) found(range(1, most_states, "states", value))
@@ -41,7 +41,7 @@ function meet_count(at, value) {
 function meet_edge(value, part) {
     split(value, part, ",")
     if (number == 7 && (part[1] + 0 >= count["states"] || part[2] + 0 >= count["states"]))
-        found("line " NR ", edge=" value ": states are 0 to " count["states"] - 1)
+        found("line " NR ", edge=" value ": " below(count["states"], "states"))
     if (number == 8 && last_edge != "" && (part[1] + 0 < from || part[1] + 0 == from && part[2] + 0 <= to))
         found("line " NR ", edge=" value ": it doesn't come after edge=" last_edge "; transitions ascend by from and then by to, each once")
     from = part[1] + 0; to = part[2] + 0; last_edge = value
@@ -91,7 +91,7 @@ END {
         else found("node " node " is of kind " kind[node + 0] "; exists-until nodes (kind 5) of this model: " (untils == "" ? "none" : untils))
     }
     if (number == 19) {
-        if (bad && broken ~ /\r$/) found("line " bad " ends in a carriage return; lines end in a line feed alone")
+        if (bad && at < 9 && broken ~ /\r$/) found("line " bad " ends in a carriage return; lines end in a line feed alone")
         else if (bad && (at == 3 || at == 4) && substr(broken, 1, length(head)) == head && length(value) != count[at == 3 ? "states" : "atoms"])
             found("line " bad " breaks the form; due there: " due(at) ", here " length(value))
         else if (bad) found("line " bad " breaks the form; due there: " due(at))

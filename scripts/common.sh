@@ -1,8 +1,10 @@
 # What ./desk and ./witness share: how they speak and end, and how a model is taken in. They read it after setting `name` and `root`.
-# shellcheck shell=sh disable=SC2154,SC2034 # names that another of these files sets or reads
+# shellcheck shell=sh disable=SC2154,SC2034,SC3013 # names that another of these files sets or reads; -ef, which every sh of Linux has
 LC_ALL=C
 export LC_ALL
 unset CDPATH
+umask u+rwx
+set +m
 
 say() { printf '%s: %s\n' "$name" "$*" >&2; }
 
@@ -21,10 +23,10 @@ input=open output=open
 
 needs_output() { [ "$output" = open ] || die 3 "standard output is closed"; }
 
-# What is ended and removed however the script ends: processes, the prover's process group, the temporary folder.
+# What is ended and removed however the script ends: processes, the prover's process group, the temporary folder. No process has anything to
+# put in order: what the prover leaves half done has no stamp and is proved again.
 at_work='' group='' scratch=''
 
-# None of them has anything to put in order: what the prover leaves half done has no stamp and is proved again.
 # shellcheck disable=SC2086 # lists of numbers
 clear_up() {
     [ -z "$at_work" ] || kill -s KILL $at_work 2>/dev/null
@@ -33,60 +35,98 @@ clear_up() {
     [ -z "$scratch" ] || rm -rf "$scratch"
 }
 
-# After a signal all is cleared up, and who called sees the signal itself.
+# Only a script that came to its end ends with 0: a shell that loses its way when a signal comes doesn't.
+finished=no
+
+leave() {
+    left=$?
+    clear_up
+    [ "$left" -ne 0 ] || [ "$finished" = yes ] || exit 3
+}
+
+# After a signal all is cleared up, and who called sees the signal itself; some shells don't end by QUIT. A signal between the start of a
+# process and the note of its number waits for the note.
+signals='HUP INT QUIT PIPE ALRM TERM USR1 USR2 XCPU XFSZ' starting=no pending=''
+
 signalled() { # SIGNAL
-    trap '' HUP INT QUIT PIPE TERM
+    if [ "$starting" = yes ]; then
+        pending=$1
+        return
+    fi
+    # shellcheck disable=SC2086 # a list of words
+    trap '' $signals
     clear_up
     trap - EXIT "$1"
     kill -s "$1" "$$"
+    exit 131
 }
 
-trap clear_up EXIT
-for signal in HUP INT QUIT PIPE TERM; do
+started() {
+    starting=no
+    [ -z "$pending" ] || signalled "$pending"
+}
+
+trap leave EXIT
+for signal in $signals; do
     # shellcheck disable=SC2064 # the name as it is now
     trap "signalled $signal" "$signal"
 done
 
+help() {
+    needs_output
+    usage
+    told=$?
+    finished=yes
+    case $told in 0 | 141) exit "$told" ;; esac
+    exit 3
+}
+
 # Others may pass through the folder, as a program that is tried as nobody must; what is the caller's own stands in own/.
 make_scratch() {
     scratch=$(mktemp -d 2>/dev/null) || { scratch='' && die 3 "no temporary folder can be made in ${TMPDIR:-/tmp}"; }
-    scratch=$(cd -- "$scratch" && pwd -P)
-    own=$scratch/own
-    { chmod 711 "$scratch" && mkdir -m 700 "$own"; } || die 3 "the temporary folder $scratch can't be used"
+    whole=$(cd -- "$scratch" && pwd -P) && scratch=$whole
+    own=$scratch/own model=$scratch/own/model
+    { chmod 711 "$scratch" && mkdir -m 700 "$own" && true >"$model" && true >"$own/said"; } 2>/dev/null || no_room
 }
+
+no_room() { die 3 "the temporary folder $scratch can't be used, or has no room"; }
 
 # No text that is judged comes near to this many bytes; what is longer is cut here, and the program refuses it for its length.
 most_kept=1048576
 
+can_be_read() { # FILE
+    case $1 in
+        - | /dev/stdin | /dev/fd/0 | /proc/self/fd/0) [ "$input" = open ] || die 2 "standard input is closed" ;;
+        *) [ -e "$1" ] || die 2 "there is no file '$1', or it can't be reached" ;;
+    esac
+}
+
 # The model is copied to $model, so that what is judged and what is explained are one text. Reading goes on beside the script, which a
-# signal could not end otherwise.
+# signal could not end otherwise; a process beside it has an empty standard input, so the caller's own goes by another number.
 take_in() { # FILE
-    from=$1
-    if [ "$1" = - ]; then
-        from="standard input"
-        [ "$input" = open ] || die 2 "standard input is closed"
-        [ ! -t 0 ] || say "the model is read from the terminal; Ctrl-D on a line of its own ends it"
-    elif [ ! -e "$1" ]; then
-        die 2 "there is no file '$1'"
-    fi
+    can_be_read "$1"
     make_scratch
-    model=$own/model
-    # the 4 keeps standard input from a background process's empty one, also where the file is /dev/stdin
-    exec 4<&0
+    from=$1 starting=yes
     if [ "$1" = - ]; then
+        from='standard input'
+        [ ! -t 0 ] || say "the model is read from the terminal; Ctrl-D on a line of its own ends it"
+        exec 4<&0
         head -c "$most_kept" 2>"$own/said" <&4 >"$model" &
-    else
+    elif [ "$1" -ef /dev/stdin ]; then
+        exec 4<&0
         (exec head -c "$most_kept" <"$1") 2>"$own/said" <&4 >"$model" &
+    else
+        (exec head -c "$most_kept" <"$1") 2>"$own/said" >"$model" &
     fi
     at_work=$!
-    wait "$at_work"
+    started
+    wait "$at_work" 2>/dev/null
     got=$?
     at_work=''
     exec 4<&-
     [ "$got" -ne 0 ] || return 0
-    why=$(sed -n '1s/.*: //p' "$own/said")
-    case $(cat "$own/said") in *writing*) die 3 "the model can't be kept in $scratch: $why" ;; esac
-    die 2 "$from can't be read: $why"
+    case $(cat "$own/said") in '' | 'head: '*writ*) no_room ;; esac
+    die 2 "$from can't be read: $(sed -n '$s/.*: //p' "$own/said")"
 }
 
 # A cell of a table in the rules: of the section, in the row that begins with the key.

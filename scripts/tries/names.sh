@@ -30,6 +30,13 @@ no_tmp() { TMPDIR=$room/nowhere call "$desk" good >"$out"; status 3 && says "$ro
 no_tmp_help() { TMPDIR=$room/nowhere call "$desk" --help >"$out"; status 0 && grep -q usage "$out"; }
 no_rt() { PATH=/usr/bin:/bin call "$desk" good >"$out"; status 3 && says "rt isn't there" && no_scratch; }
 emulator_settings() { QEMU_VERSION=1 LD_PRELOAD='' QEMU_LOG=nonsense call "$desk" good >"$out"; good; }
+no_umask() {
+    umask 777
+    as_nobody "$desk" good >"$out"
+    umask 022
+    chmod 644 "$out" "$err"
+    good
+}
 shell() { # SHELL
     call "$@" "$desk" good >"$out"
     good || return 1
@@ -50,5 +57,6 @@ try "a TMPDIR that isn't there" no_tmp
 try "a TMPDIR that isn't there, help" no_tmp_help
 try "no rt on the PATH" no_rt
 try "settings for the emulator" emulator_settings
+try "a umask that leaves nothing" no_umask
 try "bash in place of sh" shell bash
 if command -v busybox >/dev/null; then try "busybox's sh in place of sh" shell busybox sh; fi

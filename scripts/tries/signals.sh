@@ -1,11 +1,14 @@
 # Signals during a run, to the script alone: it ends at once, and leaves neither a process nor a folder.
 # shellcheck shell=bash disable=SC2154,SC2034 # names that another of these files sets or reads
-blocked_output() { # SIGNAL STATUS: nobody takes the answer
+blocked_output() { # SIGNAL STATUS [SHELL]: nobody takes the answer
     rm -f "$room/full"
     mkfifo "$room/full"
     exec 7<>"$room/full"
     head -c 65536 /dev/zero >&7
-    CALL_MARK=$room "$desk" good >&7 2>"$err" &
+    # a job of its own, which doesn't ignore QUIT
+    set -m
+    CALL_MARK=$room ${3:+"$3"} "$desk" good >&7 2>"$err" &
+    set +m
     sleep 1
     kill -s "$1" $!
     wait $!
@@ -29,8 +32,21 @@ blocked_input() { # SIGNAL STATUS: the model doesn't come
     got=$?
     status "$2" && none_at_work && no_scratch
 }
+# the script is made to get the signal where it has started a process and not yet noted its number
+at_a_start() { # FILE OF SCRIPTS
+    cp "$house/scripts/$1" "$room/kept"
+    sed -i 's/^    \([a-z_]*=$!\)/    kill -s TERM $$; \1/' "$house/scripts/$1"
+    CALL_MARK=$room timeout -s KILL 20 "$desk" good 2>"$err" | cat >"$out"
+    got=${PIPESTATUS[0]}
+    cp "$room/kept" "$house/scripts/$1"
+    status 143 && none_at_work && no_scratch
+}
 
+try "TERM right behind the start of the program" at_a_start answer.sh
+try "TERM right behind the start of reading" at_a_start common.sh
 try "TERM while nobody takes the answer" blocked_output TERM 143
 try "HUP while nobody takes the answer" blocked_output HUP 129
+try "USR1 while nobody takes the answer" blocked_output USR1 138
+try "QUIT while nobody takes the answer, bash" blocked_output QUIT 131 bash
 try "TERM while the model doesn't come" blocked_input TERM 143
 try "HUP while the model doesn't come" blocked_input HUP 129
