@@ -1,36 +1,36 @@
 # Signals during a run, to the script alone: it ends at once, and leaves neither a process nor a folder.
 # shellcheck shell=bash disable=SC2154,SC2034 # names that another of these files sets or reads
-blocked_output() { # SIGNAL STATUS [SHELL]: nobody takes the answer
-    rm -f "$room/full"
-    mkfifo "$room/full"
-    exec 7<>"$room/full"
-    head -c 65536 /dev/zero >&7
-    # a job of its own, which doesn't ignore QUIT
-    set -m
-    CALL_MARK=$room ${3:+"$3"} "$desk" good >&7 2>"$err" &
-    set +m
-    sleep 1
-    kill -s "$1" $!
-    wait $!
-    got=$?
-    exec 7>&-
-    status "$2" && none_at_work && no_scratch
-}
-blocked_input() { # SIGNAL STATUS: the model doesn't come
-    rm -f "$room/slow"
-    mkfifo "$room/slow"
-    exec 7<>"$room/slow"
-    CALL_MARK=$room "$desk" <&7 >"$out" 2>"$err" &
+send() { # SIGNAL STATUS, to the last process that was started: it ends at once, and with this status
     sleep 1
     kill -s "$1" $!
     for _ in 1 2 3 4 5 6 7 8 9 10; do
         kill -0 $! 2>/dev/null || break
         sleep 0.3
     done
+    kill -s KILL $! 2>/dev/null
     exec 7>&-
-    wait $!
+    wait $! 2>/dev/null
     got=$?
     status "$2" && none_at_work && no_scratch
+}
+pipe() { # a pipe that nobody else reads or writes, as descriptor 7
+    rm -f "$room/pipe"
+    mkfifo "$room/pipe"
+    exec 7<>"$room/pipe"
+}
+blocked_output() { # SIGNAL STATUS [SHELL]: nobody takes the answer
+    pipe
+    head -c 65536 /dev/zero >&7
+    # a job of its own, which doesn't ignore QUIT
+    set -m
+    CALL_MARK=$room ${3:+"$3"} "$desk" good >&7 2>"$err" &
+    set +m
+    send "$1" "$2"
+}
+blocked_input() { # SIGNAL STATUS: the model doesn't come
+    pipe
+    CALL_MARK=$room "$desk" <&7 >"$out" 2>"$err" &
+    send "$1" "$2"
 }
 # the script is made to get the signal where it has started a process and not yet noted its number
 at_a_start() { # FILE OF SCRIPTS
