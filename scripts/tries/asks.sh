@@ -8,7 +8,7 @@ call() { # COMMAND: its status in $got
 status() { [ "$got" = "$1" ] || { echo "ended with $got and not $1"; return 1; }; }
 says() { grep -qF -- "$1" "$err" || { echo "doesn't say: $1; says: $(tail -n 2 "$err" | tr '\n' ' ')"; return 1; }; }
 wrote() { [ "$(cat "$out")" = "$1" ] || { echo "wrote: $(head -c 200 "$out" | tr '\n' ' ')"; return 1; }; }
-no_scratch() { [ -z "$(ls -A "$room/tmp")" ] || { echo "left: $(find "$room/tmp" | head -n 3 | tr '\n' ' ')"; rm -rf "$room"/tmp/*; return 1; }; }
+no_scratch() { [ -z "$(ls -A "$room/temporary")" ] || { echo "left: $(find "$room/temporary" | head -n 3 | tr '\n' ' ')"; rm -rf "$room"/temporary/*; return 1; }; }
 builds() { [ "$(grep -c '^check$' "$room/calls")" = "$1" ] || { echo "$(grep -c '^check$' "$room/calls") builds and not $1"; return 1; }; }
 at_work() { # the processes of a call, by the mark in their environment or by their words: number and words
     for process in /proc/[0-9]*; do
