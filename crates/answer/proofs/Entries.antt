@@ -10,8 +10,8 @@ use lib.Seq.{drop-cons}
 use Rattle.lists.specs.Entries.{at}
 use Rattle.values.specs.Signs.{decimal, stopBefore, numbersPrint}
 use Rattle.values.proofs.Decimals.{decimal-short}
-use Rattle.answer.specs.Inside.{Put}
-use Rattle.answer.proofs.Placed.{put-none, put-then}
+use Rattle.lists.specs.Rows.{Put}
+use Rattle.lists.proofs.Placed.{put-none, put-then}
 
 -- what is left from entry i on: its digits, what stands behind it, and the rest
 step : (path : List ℕ) (i : ℕ) → i < length path → numbersPrint (drop i path) ≡ decimal (at path i) ++ (stopBefore (length path - (i + 1)) ∷ numbersPrint (drop (i + 1) path))

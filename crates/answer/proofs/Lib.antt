@@ -1,4 +1,3 @@
-pub mod Placed
 pub mod Digits
 pub mod Entries
 pub mod Promises

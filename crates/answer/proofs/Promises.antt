@@ -8,10 +8,10 @@ use lib.ListN.{length}
 use borrow.Author.Tests.{le-leb, lt-leb}
 use Rattle.answer.specs.Answers.{Due, lineIf, LineWritten}
 use Rattle.answer.specs.Answers.Due.{line}
-use Rattle.answer.specs.Inside.{Put}
+use Rattle.lists.specs.Rows.{Put}
 use Rattle.answer.specs.declared.Written.{Written}
 use Rattle.answer.specs.declared.Written.the-variants.{Bytes, NoRoom, NoLine}
-use Rattle.answer.proofs.Placed.{put-front}
+use Rattle.lists.proofs.Placed.{put-front}
 
 pub line-put : {before after bytes : List ℕ} {end : ℕ} → Put before after 0 end bytes → length bytes ≤ length before → LineWritten (line bytes) before after (Bytes end)
 line-put {before} {after} {bytes} {end} p h =

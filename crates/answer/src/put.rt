@@ -9,7 +9,7 @@ ghost use Rattle.values.specs.Values.{top};
 ghost use Rattle.values.specs.Limits.{mostStates};
 ghost use Rattle.values.specs.Signs.{digits, decimal, numbersPrint};
 ghost use Rattle.answer.specs.Lines.{letterOf};
-ghost use Rattle.answer.specs.Inside.{Put};
+ghost use Rattle.lists.specs.Rows.{Put};
 
 // The letter of a value.
 pub(crate) fn letter(value: u8) -> u8

@@ -26,14 +26,15 @@ take-three ns i h =
 unfoldable pub rowMore : Model → List (List ℕ) → ℕ → ℕ → ℕ → List ℕ
 rowMore m rows k a b = nodeRow m (kindOf k) a (getD rows a []) (getD rows b [])
 
-rows-append : (m : Model) (n : ℕ) (rows : List (List ℕ)) (xs : List ℕ) (k a b : ℕ) → length xs ≡ 3 * n → rowsFrom m rows (xs ++ (k ∷ a ∷ b ∷ [])) ≡ rowsFrom m rows xs ++ (rowMore m (rowsFrom m rows xs) k a b ∷ [])
-unfolding rowsFrom rowMore
-rows-append m zero rows [] k a b e = refl
-rows-append m zero rows (x ∷ xs) k a b e = absurd (omega arith)
-rows-append m (suc n) rows [] k a b e = absurd (omega arith)
-rows-append m (suc n) rows (x ∷ []) k a b e = absurd (omega arith)
-rows-append m (suc n) rows (x ∷ y ∷ []) k a b e = absurd (omega arith)
-rows-append m (suc n) rows (x ∷ y ∷ z ∷ xs) k a b e = rows-append m n (rows ++ (nodeRow m (kindOf x) y (getD rows y []) (getD rows z []) ∷ [])) xs k a b (omega arith)
+-- the nodes of two lists, one after the other
+pub rows-append : (m : Model) (n : ℕ) (rows : List (List ℕ)) (xs ys : List ℕ) → length xs ≡ 3 * n → rowsFrom m rows (xs ++ ys) ≡ rowsFrom m (rowsFrom m rows xs) ys
+unfolding rowsFrom
+rows-append m zero rows [] ys e = refl
+rows-append m zero rows (x ∷ xs) ys e = absurd (omega arith)
+rows-append m (suc n) rows [] ys e = absurd (omega arith)
+rows-append m (suc n) rows (x ∷ []) ys e = absurd (omega arith)
+rows-append m (suc n) rows (x ∷ y ∷ []) ys e = absurd (omega arith)
+rows-append m (suc n) rows (x ∷ y ∷ z ∷ xs) ys e = rows-append m n (rows ++ (nodeRow m (kindOf x) y (getD rows y []) (getD rows z []) ∷ [])) xs ys (omega arith)
 
 rows-length : (m : Model) (n : ℕ) (rows : List (List ℕ)) (xs : List ℕ) → length xs ≡ 3 * n → length (rowsFrom m rows xs) ≡ length rows + n
 unfolding rowsFrom
@@ -46,19 +47,30 @@ rows-length m (suc n) rows (x ∷ y ∷ z ∷ xs) e =
     let row : List ℕ = nodeRow m (kindOf x) y (getD rows y []) (getD rows z []) in
     rows-length m n (rows ++ (row ∷ [])) xs (omega arith) ∙ omega (arith, length-append rows (row ∷ []))
 
+-- a row once made stays, whatever nodes follow
+pub rows-kept : (m : Model) (rows : List (List ℕ)) (ns : List ℕ) (j : ℕ) → j < length rows → getD (rowsFrom m rows ns) j [] ≡ getD rows j []
+unfolding rowsFrom
+rows-kept m rows [] j h = refl
+rows-kept m rows (k ∷ []) j h = refl
+rows-kept m rows (k ∷ a ∷ []) j h = refl
+rows-kept m rows (k ∷ a ∷ b ∷ ns) j h =
+    let row : List ℕ = nodeRow m (kindOf k) a (getD rows a []) (getD rows b []) in
+    rows-kept m (rows ++ (row ∷ [])) ns j (omega (arith, length-append rows (row ∷ []))) ∙ List·getD-append rows (row ∷ []) [] j h
+
 module _ (m : Model) (ns : List ℕ) where
   -- the rows of the first i nodes
   abbrev pub firstRows : ℕ → List (List ℕ)
   firstRows i = rowsFrom m [] (take (3 * i) ns)
 
-  first-size : (i : ℕ) → i ≤ nodeCount ns → length (take (3 * i) ns) ≡ 3 * i
+  pub first-size : (i : ℕ) → i ≤ nodeCount ns → length (take (3 * i) ns) ≡ 3 * i
   first-size i h = length-take-le (3 * i) ns (omega arith)
 
   pub rows-count : (i : ℕ) → i ≤ nodeCount ns → length (firstRows i) ≡ i
   rows-count i h = rows-length m i [] (take (3 * i) ns) (first-size i h) ∙ omega arith
 
   pub rows-next : (i : ℕ) → i < nodeCount ns → firstRows (i + 1) ≡ firstRows i ++ (rowMore m (firstRows i) (kindAt ns i) (leftAt ns i) (rightAt ns i) ∷ [])
-  rows-next i h = ap (rowsFrom m []) (take-three ns i h) ∙ rows-append m i [] (take (3 * i) ns) (kindAt ns i) (leftAt ns i) (rightAt ns i) (first-size i (omega arith))
+  unfolding rowsFrom rowMore
+  rows-next i h = ap (rowsFrom m []) (take-three ns i h) ∙ rows-append m i [] (take (3 * i) ns) (kindAt ns i ∷ leftAt ns i ∷ rightAt ns i ∷ []) (first-size i (omega arith))
 
   pub rows-none : firstRows 0 ≡ []
   unfolding rowsFrom
@@ -67,7 +79,7 @@ module _ (m : Model) (ns : List ℕ) where
   pub rows-whole : length ns % 3 ≡ 0 → firstRows (nodeCount ns) ≡ rowsFrom m [] ns
   rows-whole h = let e : 3 * nodeCount ns ≡ length ns = omega arith in ap (rowsFrom m []) (ap (λ (k : ℕ). take k ns) e ∙ take-length ns)
 
-  -- a row once made stays, whatever nodes follow
+  -- so it is among the first nodes of a list
   pub rows-stay : (d i j : ℕ) → i + d ≤ nodeCount ns → j < i → getD (firstRows (i + d)) j [] ≡ getD (firstRows i) j []
   rows-stay zero i j h l = let e : i + 0 ≡ i = omega arith in ap (λ (n : ℕ). getD (firstRows n) j []) e
   rows-stay (suc d) i j h l =

@@ -3,6 +3,8 @@ pub mod Tests
 pub mod Entries
 pub mod Search
 pub mod Rows
+pub mod Placed
+pub mod Laid
 pub mod Choosing
 pub mod Causes
 pub mod Sums

@@ -1,6 +1,6 @@
 -- Rows: lists that a rule fills entry by entry.
 use mathlib.Core.Path.{_≡_}
-use Prim.Native.Nat.{ℕ, zero, suc, _+_}
+use Prim.Native.Nat.{ℕ, zero, suc, _+_, _≤_}
 use mathlib.Core.List.{List, [], _∷_, _++_}
 use mathlib.Core.Bool.{cond}
 use lib.ListN.{length, take, drop}
@@ -26,6 +26,12 @@ fillIf xs before = cond (leb (length xs) (length before)) (fill xs before) befor
 -- xs over what stood in a space from a place on
 abbrev pub laid : ℕ → List ℕ → List ℕ → List ℕ
 laid place xs before = take place before ++ xs ++ drop (place + length xs) before
+
+-- bytes are laid over a space from a place in it on, up to an end
+pub record Put (before after : List ℕ) (place end : ℕ) (bytes : List ℕ) : Type 0 where
+  pub ends : end ≡ place + length bytes
+  pub begins : place ≤ length before
+  pub lays : after ≡ laid place bytes before
 
 -- the lists of g t for each t of ts, one after the other
 unfoldable pub each : (ℕ → List (List ℕ)) → List ℕ → List (List ℕ)

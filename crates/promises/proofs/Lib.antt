@@ -2,6 +2,8 @@ pub mod Accepted
 pub mod Refusals
 pub mod Verdicts
 pub mod Meaning
+pub mod Parts
+pub mod Formulas
 pub mod Text
 pub mod Paths
 pub mod Nights

@@ -23,10 +23,10 @@ use Rattle.sheet.specs.Inside.{FrontsFit, FrontsJudged, fronts}
 use Rattle.sheet.specs.Answers.{refusedSheet, sheetOf, Judges, TextJudged}
 
 -- what fills the front of a table fits into it, and is found there
-front : (xs before table : List ℕ) (n : ℕ) → length xs ≡ n → table ≡ fill xs before → n ≤ length table
+pub front : (xs before table : List ℕ) (n : ℕ) → length xs ≡ n → table ≡ fill xs before → n ≤ length table
 front xs before table n e t = omega (arith, length-append xs (drop (length xs) before), ap length t)
 
-found-there : (xs before table : List ℕ) (n : ℕ) → length xs ≡ n → table ≡ fill xs before → take n table ≡ xs
+pub found-there : (xs before table : List ℕ) (n : ℕ) → length xs ≡ n → table ≡ fill xs before → take n table ≡ xs
 found-there xs before table n e t = ap (take n) t ∙ take-at xs (drop (length xs) before) n e
 
 pub fronts-fit : (text : List ℕ) (lent lent′ : Tables) (S A E N : ℕ) → ModelRead text lent lent′ (read.Model S A E N) → FrontsFit S A E N lent′
@@ -51,23 +51,45 @@ refused-at : (o : Outcome) (before : List ℕ) (n : ℕ) (r : Sheet) → n ≡ n
 refused-at (refusal m) before n r q c s = (s ∙ ap refusedSheet q, refl)
 refused-at (model m) before n r q c s = absurd (let z : _≡_ {A = ℕ} 0 1 = cc in omega arith)
 
--- and the fronts that were judged are the model
-model-at : (o : Outcome) (lent lent′ : Tables) (S A E N : ℕ) (before after : List ℕ) (r : Sheet) → ((m : Model) → o ≡ model m → Printable m)
-    → S ∷ A ∷ E ∷ N ∷ [] ≡ countsDue o → lent′ ≡ tablesDue o lent → FrontsJudged S A E N lent′ before after r → Judges o before after r
-model-at (refusal n) lent lent′ S A E N before after r good c l j = absurd (let z : _≡_ {A = ℕ} 0 1 = cc in omega arith)
-model-at (model m) lent lent′ S A E N before after r good c l j =
-    let g = good m refl in
+-- the counts are a model's, and its tables stand in the fronts
+pub record Standing (m : Model) (S A E N : ℕ) (lent : Tables) : Type 0 where
+  pub states : S ≡ m .states
+  pub atoms : A ≡ m .atoms
+  pub count : N ≡ nodeCount (m .nodes)
+  pub labels : take (S * A) (lent .labels) ≡ m .labels
+  pub initial : take S (lent .initial) ≡ m .initial
+  pub transitions : take (2 * E) (lent .transitions) ≡ m .transitions
+  pub nodes : take (3 * N) (lent .nodes) ≡ m .nodes
+
+pub standing : (m : Model) (lent lent′ : Tables) (S A E N : ℕ) → Printable m → S ∷ A ∷ E ∷ N ∷ [] ≡ countsDue (model m) → lent′ ≡ tablesDue (model m) lent → Standing m S A E N lent′
+standing m lent lent′ S A E N g c l =
     let s : S ≡ m .states = cc in
     let a : A ≡ m .atoms = cc in
     let e : E ≡ count (m .transitions) = cc in
     let n : N ≡ nodeCount (m .nodes) = cc in
     let product : labelCount m ≡ S * A = cc in
-    let labels = found-there (m .labels) (lent .labels) (lent′ .labels) (S * A) (g .labels .size ∙ product) (ap (λ (t : Tables). t .labels) l) in
-    let initial = found-there (m .initial) (lent .initial) (lent′ .initial) S (g .initial .size ∙ sym s) (ap (λ (t : Tables). t .initial) l) in
-    let transitions = found-there (m .transitions) (lent .transitions) (lent′ .transitions) (2 * E) (g .transitions .numbers .size ∙ ap (λ (k : ℕ). 2 * k) (sym e)) (ap (λ (t : Tables). t .transitions) l) in
-    let nodes = found-there (m .nodes) (lent .nodes) (lent′ .nodes) (3 * N) (g .nodes .numbers .size ∙ ap (λ (k : ℕ). 3 * k) (sym n)) (ap (λ (t : Tables). t .nodes) l) in
-    let same : fronts S A E N lent′ ≡ m = λ i. asModel (s i) (a i) (labels i) (initial i) (transitions i) (nodes i) in
-    record { answer = j .answer; judging = subst (λ (x : Model). Judging x before after (j .answer)) same (j .judging); sheet = rw (s, n) at (j .sheet) }
+    record {
+      states = s;
+      atoms = a;
+      count = n;
+      labels = found-there (m .labels) (lent .labels) (lent′ .labels) (S * A) (g .labels .size ∙ product) (ap (λ (t : Tables). t .labels) l);
+      initial = found-there (m .initial) (lent .initial) (lent′ .initial) S (g .initial .size ∙ sym s) (ap (λ (t : Tables). t .initial) l);
+      transitions = found-there (m .transitions) (lent .transitions) (lent′ .transitions) (2 * E) (g .transitions .numbers .size ∙ ap (λ (k : ℕ). 2 * k) (sym e)) (ap (λ (t : Tables). t .transitions) l);
+      nodes = found-there (m .nodes) (lent .nodes) (lent′ .nodes) (3 * N) (g .nodes .numbers .size ∙ ap (λ (k : ℕ). 3 * k) (sym n)) (ap (λ (t : Tables). t .nodes) l);
+    }
+
+-- the model in the fronts is then this one
+pub whole-model : (m : Model) (S A E N : ℕ) (lent : Tables) → Standing m S A E N lent → fronts S A E N lent ≡ m
+whole-model m S A E N lent t = λ i. asModel (t .states i) (t .atoms i) (t .labels i) (t .initial i) (t .transitions i) (t .nodes i)
+
+-- and the fronts that were judged are the model
+model-at : (o : Outcome) (lent lent′ : Tables) (S A E N : ℕ) (before after : List ℕ) (r : Sheet) → ((m : Model) → o ≡ model m → Printable m)
+    → S ∷ A ∷ E ∷ N ∷ [] ≡ countsDue o → lent′ ≡ tablesDue o lent → FrontsJudged S A E N lent′ before after r → Judges o before after r
+model-at (refusal n) lent lent′ S A E N before after r good c l j = absurd (let z : _≡_ {A = ℕ} 0 1 = cc in omega arith)
+model-at (model m) lent lent′ S A E N before after r good c l j =
+    let t = standing m lent lent′ S A E N (good m refl) c l in
+    let same = whole-model m S A E N lent′ t in
+    record { answer = j .answer; judging = subst (λ (x : Model). Judging x before after (j .answer)) same (j .judging); sheet = rw (t .states, t .count) at (j .sheet) }
 
 -- the promise at both of its ways out
 pub judged-refused : {text : List ℕ} {lent lent′ : Tables} (before : List ℕ) {answer : Read} {n : ℕ} {r : Sheet}
@@ -83,7 +105,7 @@ judged-model {text} {lent} {lent′} {before} {after} {answer} {S} {A} {E} {N} {
     model-at (textOutcome text) lent lent′ S A E N before after r (outcome-printable text) (c .1) (c .2) j
 
 -- any two permitted answers coincide, the verdict space too
-judges-one : (o : Outcome) (before after after′ : List ℕ) (r r′ : Sheet) → Judges o before after r → Judges o before after′ r′ → (r ≡ r′) × (after ≡ after′)
+pub judges-one : (o : Outcome) (before after after′ : List ℕ) (r r′ : Sheet) → Judges o before after r → Judges o before after′ r′ → (r ≡ r′) × (after ≡ after′)
 judges-one (model m) before after after′ r r′ p q =
     let same = judging-one m before after after′ (p .answer) (q .answer) (p .judging) (q .judging) in
     (p .sheet ∙ ap (sheetOf (m .states) (nodeCount (m .nodes))) (same .0) ∙ sym (q .sheet), same .1)

@@ -1,4 +1,5 @@
 pub mod Fronts
+pub mod Asking
 pub mod Output
 pub mod RowLines
 pub mod Meaning

@@ -1,9 +1,9 @@
-// What the programs share: a model's text is judged, and the whole answer is written line by line.
+// What the programs share: a model's text is judged, by its own nodes or by a formula, and the whole answer is written line by line.
 //
 //   judging   the tables that were read, judged
 //   lines     one line of the answer
 //
-// specs/Answers says what the two calls promise, specs/Output what the whole answer is.
+// specs/Answers says what the calls promise, specs/Output what the whole answer is.
 use text::Read;
 use values::limits::MOST_LABELS;
 use values::limits::MOST_NODE_NUMBERS;
@@ -14,11 +14,12 @@ use values::verdict::Verdict;
 mod judging;
 mod lines;
 
+use judging::ask_fronts;
 use judging::judge_fronts;
 use judging::refused;
 use lines::line_of;
 use lines::write_row_at;
-ghost use Rattle.sheet.specs.Answers.{TextJudged, LinePut};
+ghost use Rattle.sheet.specs.Answers.{TextJudged, FormulaJudged, LinePut};
 ghost use Rattle.sheet.specs.Output.{output, lineAt};
 
 // What came of a text: 0 with the counts and the model's verdict, or the number of the refusal and zeros.
@@ -74,6 +75,32 @@ pub fn judge_text(text: &[u8], verdicts: &mut [u8]) -> Sheet
             &nodes,
             verdicts,
         ),
+    }
+}
+
+// Judges a formula's text on the model that a text holds, as `judge_text` does; the model's own nodes are not used.
+pub fn judge_formula(text: &[u8], formula: &[u8], verdicts: &mut [u8]) -> Sheet
+    ensures { λ r. ⌜ FormulaJudged (now (text .entry)) (now (formula .entry)) (now (verdicts .entry)) (now (verdicts .exit)) r ⌝ }
+{
+    let mut labels = [0u8; MOST_LABELS];
+    let mut initial = [0u8; MOST_STATES];
+    let mut transitions = [0u16; MOST_TRANSITION_NUMBERS];
+    let mut nodes = [0u16; MOST_NODE_NUMBERS];
+    let answer = text::read_model(
+        text,
+        &mut labels,
+        &mut initial,
+        &mut transitions,
+        &mut nodes,
+    );
+    match answer {
+        Read::Refused(number) => refused(number),
+        Read::Model {
+            states: s,
+            atoms: a,
+            transitions: e,
+            nodes: _,
+        } => ask_fronts(s, a, e, &labels, &initial, &transitions, formula, verdicts),
     }
 }
 

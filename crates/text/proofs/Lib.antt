@@ -1,4 +1,3 @@
-pub mod Laid
 pub mod Answers
 pub mod Numbers
 pub mod Reached

@@ -15,7 +15,7 @@ use Rattle.form.specs.Readers.{Reading, Reader, on, give, valued, lines, rowLin
 use Rattle.form.specs.Readers.Reading.{found}
 use Rattle.text.specs.Inside.{told, after, LineRead, LinesRead}
 use Rattle.form.proofs.Steps.{joined, valued-nothing}
-use Rattle.text.proofs.Laid.{laid-take, laid-drop}
+use Rattle.lists.proofs.Laid.{laid-take, laid-drop}
 use Rattle.form.proofs.Readings.{row-size}
 use Rattle.text.proofs.Answers.{Stops, stopped, took, missed, missed-table, whole}
 

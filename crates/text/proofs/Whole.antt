@@ -27,7 +27,7 @@ use Rattle.text.proofs.Read.{the-type}
 use types.Run.{OneOf}
 use denote.Enum.Declared.{tagOf}
 use Rattle.form.proofs.Printed.{model-back}
-use Rattle.text.proofs.Laid.{laid-front}
+use Rattle.lists.proofs.Laid.{laid-front}
 
 -- the tables are long enough
 pub record Enough (L I T N : ℕ) : Type 0 where

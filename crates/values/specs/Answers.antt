@@ -12,7 +12,7 @@ use Rattle.values.specs.declared.verdict.Made.{Made}
 use Rattle.values.specs.declared.verdict.Made.the-variants.{One, None}
 use Rattle.values.specs.declared.rows.Row.{Row}
 use Rattle.values.specs.Values.{top}
-use Rattle.values.specs.Limits.{mostStates, mostAtoms, mostTransitions, mostNodes, mostText, greatestKind, mostLabels, mostTransitionNumbers, mostNodeNumbers}
+use Rattle.values.specs.Limits.{mostStates, mostAtoms, mostTransitions, mostNodes, mostText, mostFormula, greatestKind, mostLabels, mostTransitionNumbers, mostNodeNumbers}
 use Rattle.values.specs.Rows.{storedRow, rowValues, badRow, mostVerdicts}
 
 -- `in_force`: the limits and the sizes that follow
@@ -24,6 +24,7 @@ limitsInForce =
       transitions = mostTransitions;
       nodes = mostNodes;
       text = mostText;
+      formula = mostFormula;
       kind = greatestKind;
       labels = mostLabels;
       «transition_numbers» = mostTransitionNumbers;

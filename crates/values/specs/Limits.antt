@@ -17,6 +17,10 @@ mostNodes = 64
 abbrev pub mostText : ℕ
 mostText = 32768
 
+-- of a formula's text, in bytes
+abbrev pub mostFormula : ℕ
+mostFormula = 4096
+
 -- the kinds of nodes are 0 to this
 abbrev pub greatestKind : ℕ
 greatestKind = 6

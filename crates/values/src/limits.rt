@@ -12,6 +12,8 @@ pub const MOST_NODES: usize = 64;
 
 pub const MOST_TEXT: usize = 32768;
 
+pub const MOST_FORMULA: usize = 4096;
+
 pub const GREATEST_KIND: u16 = 6;
 
 pub const MOST_LABELS: usize = MOST_STATES * MOST_ATOMS;
@@ -29,6 +31,7 @@ pub struct Limits {
     pub transitions: usize,
     pub nodes: usize,
     pub text: usize,
+    pub formula: usize,
     pub kind: u16,
     pub labels: usize,
     pub transition_numbers: usize,
@@ -45,6 +48,7 @@ pub fn in_force() -> Limits
         transitions: MOST_TRANSITIONS,
         nodes: MOST_NODES,
         text: MOST_TEXT,
+        formula: MOST_FORMULA,
         kind: GREATEST_KIND,
         labels: MOST_LABELS,
         transition_numbers: MOST_TRANSITION_NUMBERS,

@@ -2,7 +2,7 @@
 use native.Mathlib.Omega.{arith}
 use borrow.Author.Tests.{le-leb, lt-leb}
 use Rattle.answer.specs.Lines.{modelLine}
-use Rattle.answer.proofs.Placed.{put-then}
+use Rattle.lists.proofs.Placed.{put-then}
 use Rattle.answer.proofs.Promises.{line-put, line-short, line-none, line-some}
 use Rattle.answer.proofs.Sizes.{model-size}
 use borrow.Author.Needs.{needs}

@@ -1,7 +1,7 @@
 -- `write_number` meets its contract: the key, the digits and the line feed, one behind the other.
 use native.Mathlib.Omega.{arith}
 use Rattle.answer.specs.Lines.{answerLine}
-use Rattle.answer.proofs.Placed.{put-then}
+use Rattle.lists.proofs.Placed.{put-then}
 use Rattle.values.proofs.Decimals.{decimal-short}
 use Rattle.answer.proofs.Promises.{line-put, line-short}
 use Rattle.answer.proofs.Sizes.{answer-size}

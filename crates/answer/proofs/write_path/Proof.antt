@@ -1,7 +1,7 @@
 -- `write_path` meets its contract: the key, and the entries up to the line feed.
 use native.Mathlib.Omega.{arith}
 use Rattle.answer.specs.Lines.{pathLine}
-use Rattle.answer.proofs.Placed.{put-then}
+use Rattle.lists.proofs.Placed.{put-then}
 use Rattle.answer.proofs.Entries.{entries-few}
 use Rattle.answer.proofs.Promises.{line-put, line-short, line-none, line-some}
 use Rattle.answer.proofs.Sizes.{path-size, path-empty, path-long, path-right}

@@ -5,7 +5,7 @@ use Rattle.lists.proofs.Rows.{length-tab}
 use Rattle.values.specs.Inside.{RowTaken}
 use Rattle.values.proofs.StoredRows.{row-read, row-values-small}
 use Rattle.answer.specs.Lines.{rowLine}
-use Rattle.answer.proofs.Placed.{put-then}
+use Rattle.lists.proofs.Placed.{put-then}
 use Rattle.answer.proofs.Promises.{line-put, line-short, line-none, line-some}
 use Rattle.answer.proofs.Sizes.{row-size, row-letters, row-valid}
 use borrow.Author.Needs.{needs}

@@ -1,5 +1,5 @@
 -- `put_byte` meets its contract: one store.
-use Rattle.answer.proofs.Placed.{put-one}
+use Rattle.lists.proofs.Placed.{put-one}
 use borrow.Author.Needs.{needs}
 use Rattle.answer.proofs.put.put_byte.Statement.{statement}
 use Rattle.answer.proofs.put.put_byte.Tie as tie

@@ -1,6 +1,6 @@
 -- `put_decimal` meets its contract: up to three digits, or the hundreds and two digits behind them.
 use native.Mathlib.Omega.{arith}
-use Rattle.answer.proofs.Placed.{put-then}
+use Rattle.lists.proofs.Placed.{put-then}
 use Rattle.answer.proofs.Digits.{decimal-more, size-more}
 use borrow.Author.Needs.{needs}
 use Rattle.answer.proofs.put.put_decimal.Statement.{statement}

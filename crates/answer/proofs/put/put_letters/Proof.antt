@@ -6,8 +6,8 @@ use lib.ListN.{length, length-set}
 use Rattle.lists.specs.Entries.{at}
 use Rattle.lists.specs.Rows.{tab}
 use Rattle.answer.specs.Lines.{letterOf}
-use Rattle.answer.specs.Inside.{Put}
-use Rattle.answer.proofs.Placed.{put-first, put-more, put-all}
+use Rattle.lists.specs.Rows.{Put}
+use Rattle.lists.proofs.Placed.{put-first, put-more, put-all}
 use borrow.Author.Needs.{needs}
 use Rattle.answer.proofs.put.put_letters.Statement.{statement}
 use Rattle.answer.proofs.put.put_letters.Tie as tie

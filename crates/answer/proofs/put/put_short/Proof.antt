@@ -2,7 +2,7 @@
 use mathlib.Core.Path.{ap}
 use native.Mathlib.Omega.{arith}
 use lib.ListN.{length}
-use Rattle.answer.proofs.Placed.{put-then}
+use Rattle.lists.proofs.Placed.{put-then}
 use Rattle.answer.proofs.Digits.{decimal-one, decimal-two, decimal-three}
 use borrow.Author.Needs.{needs}
 use Rattle.answer.proofs.put.put_short.Statement.{statement}

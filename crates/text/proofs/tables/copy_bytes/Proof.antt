@@ -6,7 +6,7 @@ use mathlib.Core.Path.{refl, _∙_}
 use denote.Ref.{now}
 use lib.ListN.{take}
 use native.Mathlib.Nat.{zero-add}
-use Rattle.text.proofs.Laid.{Laying, laying-none, laying-more, laying-done, laid-front}
+use Rattle.lists.proofs.Laid.{Laying, laying-none, laying-more, laying-done, laid-front}
 use Rattle.text.proofs.tables.copy_bytes.Statement.{statement}
 use Rattle.text.proofs.tables.copy_bytes.Tie as tie
 

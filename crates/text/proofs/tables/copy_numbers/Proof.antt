@@ -4,7 +4,7 @@ use borrow.Author.Needs.{needs}
 use Prim.Native.Nat.{_-_}
 use mathlib.Core.Path.{refl}
 use denote.Ref.{now}
-use Rattle.text.proofs.Laid.{Laying, laying-none, laying-more, laying-done}
+use Rattle.lists.proofs.Laid.{Laying, laying-none, laying-more, laying-done}
 use Rattle.text.proofs.tables.copy_numbers.Statement.{statement}
 use Rattle.text.proofs.tables.copy_numbers.Tie as tie
 

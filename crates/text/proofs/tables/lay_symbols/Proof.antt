@@ -9,7 +9,7 @@ use lib.ListN.{length, drop, length-drop, length-map}
 use lib.Seq.{getD-drop}
 use Rattle.lists.specs.Rows.{laid}
 use Rattle.form.specs.Readers.{placeOf}
-use Rattle.text.proofs.Laid.{Laying, laying-none, laying-more, laying-done, map-at, map-take}
+use Rattle.lists.proofs.Laid.{Laying, laying-none, laying-more, laying-done, map-at, map-take}
 use Rattle.text.proofs.tables.lay_symbols.Statement.{statement}
 use Rattle.text.proofs.tables.lay_symbols.Tie as tie
 

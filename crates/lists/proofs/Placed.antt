@@ -7,8 +7,7 @@ use native.Mathlib.Nat.{add-zero, zero-add}
 use native.Mathlib.Omega.{arith}
 use lib.ListN.{length, take, drop, set, length-append, take-append-drop}
 use lib.Seq.{set-split, append-snoc, length-take-le, take-at, drop-at, drop-drop}
-use Rattle.lists.specs.Rows.{fill, tab}
-use Rattle.answer.specs.Inside.{Put}
+use Rattle.lists.specs.Rows.{fill, tab, Put}
 
 pub put-none : (l : List ℕ) (place : ℕ) → place ≤ length l → Put l l place place []
 put-none l place h = record { ends = sym (add-zero place); begins = h; lays = sym (take-append-drop place l) ∙ rw (append-nil, add-zero) }

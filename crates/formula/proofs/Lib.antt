@@ -1,0 +1,11 @@
+pub mod Numbers
+pub mod Beginnings
+pub mod Operators
+pub mod AtomLaws
+pub mod Shapes
+pub mod OneReading
+pub mod Founds
+pub mod NodeSpace
+pub mod Sizes
+pub mod ReadLaws
+pub mod ReadOnce

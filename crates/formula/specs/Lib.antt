@@ -1,0 +1,6 @@
+pub mod Tree
+pub mod Text
+pub mod Nodes
+pub mod Meaning
+pub mod Answers
+pub mod Inside

@@ -1,0 +1,33 @@
+-- The text of a formula, as bytes: T, p0, !f, (f&g), EX f, E(f U g), A(f U g).
+use Prim.Native.Nat.{ℕ}
+use mathlib.Core.List.{List, [], _∷_, _++_}
+use Rattle.values.specs.Signs.{decimal}
+use Rattle.formula.specs.Tree.{Prefix, NOT, EX, Pair, AND, EU, AU, Formula, TRUE, ATOM, one, two}
+
+-- ! or EX and a space
+abbrev pub sign : Prefix → List ℕ
+sign NOT = 33 ∷ []
+sign EX = 69 ∷ 88 ∷ 32 ∷ []
+
+-- ( or E( or A(
+abbrev pub opening : Pair → List ℕ
+opening AND = 40 ∷ []
+opening EU = 69 ∷ 40 ∷ []
+opening AU = 65 ∷ 40 ∷ []
+
+-- & or a space, U and a space
+abbrev pub middle : Pair → List ℕ
+middle AND = 38 ∷ []
+middle EU = 32 ∷ 85 ∷ 32 ∷ []
+middle AU = 32 ∷ 85 ∷ 32 ∷ []
+
+-- )
+abbrev pub closing : List ℕ
+closing = 41 ∷ []
+
+-- T, or p and the atom's number, or the parts with these signs
+unfoldable pub textOf : Formula → List ℕ
+textOf TRUE = 84 ∷ []
+textOf (ATOM a) = 112 ∷ decimal a
+textOf (one p f) = sign p ++ textOf f
+textOf (two q f g) = opening q ++ (textOf f ++ (middle q ++ (textOf g ++ closing)))

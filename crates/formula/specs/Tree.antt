@@ -1,0 +1,31 @@
+-- A formula as a tree, and when its atoms are ones that a model may have.
+use Prim.Native.Nat.{ℕ, _+_, _<_}
+use Rattle.values.specs.Limits.{mostAtoms}
+
+-- what stands before a formula: not, EX
+pub data Prefix : Type 0 where
+  NOT EX : Prefix
+
+-- what joins two: and, E until, A until
+pub data Pair : Type 0 where
+  AND EU AU : Pair
+
+pub data Formula : Type 0 where
+  TRUE : Formula
+  ATOM : ℕ → Formula
+  one : Prefix → Formula → Formula
+  two : Pair → Formula → Formula → Formula
+
+-- how many nodes it has
+unfoldable pub size : Formula → ℕ
+size TRUE = 1
+size (ATOM a) = 1
+size (one p f) = size f + 1
+size (two q f g) = size f + size g + 1
+
+-- each atom is below the most
+unfoldable pub Named : Formula → Type 0
+Named TRUE = Unit {0}
+Named (ATOM a) = a < mostAtoms
+Named (one p f) = Named f
+Named (two q f g) = Named f × Named g
