@@ -2,18 +2,18 @@
 
 use crate::model::{joined, letters, successors};
 use crate::question::{Asking, Question};
-use crate::{judge, labelling, paths, question, reader, refusals};
+use crate::{formula, judge, labelling, paths, question, reader, refusals};
 
 pub const MOST_PATHS: usize = 200;
 
 pub fn answer(case: &[u8]) -> String {
-    match case.strip_prefix(b"M\n") {
-        Some(text) => of_model(text),
-        None => {
-            let (question, asking) = question::read(case);
-            of_question(&question, &asking)
-        }
+    if let Some(text) = case.strip_prefix(b"M\n") {
+        return of_model(text);
     }
+    formula::answering::answer(case).unwrap_or_else(|| {
+        let (question, asking) = question::read(case);
+        of_question(&question, &asking)
+    })
 }
 
 fn of_model(text: &[u8]) -> String {

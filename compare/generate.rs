@@ -1,4 +1,4 @@
-//! The mixture of cases, by their number modulo 100:
+//! The mixture of models and path questions, by their number modulo 100:
 //!    0 to 37  accepted models
 //!   38 to 45  models whose tables are refused by one cause (5, 7, 8, 9, 11, 12 in turn)
 //!   46 to 48  texts with one count out of its range (1, 2, 6, 10 in turn)
@@ -17,7 +17,15 @@ use crate::limits::{self, model_case};
 use crate::model::{text_of, Model};
 use crate::question::{Asking, Question};
 use crate::random::Random;
-use crate::{askings, breaks, judge, misasked, models, question, reader, spoiled};
+use crate::{askings, breaks, formula, judge, misasked, models, question, reader, spoiled};
+
+/// A fresh case: every third one is about formulas, the others are of the mixture above.
+pub fn mixed(seed: u64, number: usize) -> Vec<u8> {
+    match number % 3 {
+        2 => formula::mixture::case(seed, number / 3),
+        _ => case(seed, number - (number + 1) / 3),
+    }
+}
 
 /// Case number `number` of a seed; an accepted model that leaves an atom unnamed is drawn again.
 pub fn case(seed: u64, number: usize) -> Vec<u8> {
@@ -60,7 +68,7 @@ fn asked((question, asking): (Question, Asking)) -> Vec<u8> {
 }
 
 /// Whoever wrote a generator with one cause in mind must get that number, else the generator is wrong.
-fn sure(case: Vec<u8>, number: u16) -> Vec<u8> {
+pub fn sure(case: Vec<u8>, number: u16) -> Vec<u8> {
     assert_eq!(answers::answer(&case), format!("answer={number}\n"), "{}", String::from_utf8_lossy(&case));
     case
 }
@@ -78,7 +86,7 @@ fn refused_count(random: &mut Random, cause: u16) -> Vec<u8> {
 }
 
 /// A count that is just or far out of its range; half of the time the text ends there.
-fn count_out_of_range(random: &mut Random, lines: &mut Vec<String>, cause: u16) {
+pub fn count_out_of_range(random: &mut Random, lines: &mut Vec<String>, cause: u16) {
     let (key, wrong): (&str, &[usize]) = match cause {
         1 => ("states=", &[0, 257, 65_535]),
         2 => ("atoms=", &[33, 34, 65_535]),

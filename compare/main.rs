@@ -4,6 +4,7 @@
 mod answers;
 mod askings;
 mod breaks;
+mod formula;
 mod frames;
 mod generate;
 mod graphs;
@@ -26,8 +27,10 @@ mod walks;
 use std::io::{Read, Write};
 use std::process::ExitCode;
 
-const USAGE: &str = "compare make COUNT SEED INPUT_FILE ANSWER_FILE [MODEL_FILE ..]
-    writes COUNT cases and their answers, the model files' cases before them
+const USAGE: &str = "compare make COUNT SEED INPUT_FILE ANSWER_FILE
+    writes COUNT fresh cases and their answers
+compare store COUNT FORMULAS SEED INPUT_FILE ANSWER_FILE [MODEL_FILE ..]
+    writes the model files' cases, COUNT of models and paths, the listed ones of formulas, FORMULAS random ones
 compare explain INPUT_FILE N
     prints case N (from 0) and its expected answer
 compare differ INPUT_FILE EXPECTED GOT
@@ -43,7 +46,10 @@ fn main() -> ExitCode {
     let words: Vec<String> = std::env::args().skip(1).collect();
     let words: Vec<&str> = words.iter().map(String::as_str).collect();
     let done = match words[..] {
-        ["make", count, seed, input, answers, ref models @ ..] => make(count, seed, input, answers, models),
+        ["make", count, seed, input, answers] => make(count, seed, input, answers),
+        ["store", count, formulas, seed, input, answers, ref models @ ..] => {
+            store([count, formulas], seed, [input, answers], models)
+        }
         ["explain", input, number] => explain(input, number),
         ["differ", input, expected, got] => differ(input, expected, got),
         ["answer"] => answer(),
@@ -69,8 +75,14 @@ fn save(file: &str, bytes: &[u8]) -> Result<(), String> {
     std::fs::write(file, bytes).map_err(|error| format!("{file}: {error}"))
 }
 
-fn make(count: &str, seed: &str, input: &str, answer_file: &str, models: &[&str]) -> Result<ExitCode, String> {
+fn make(count: &str, seed: &str, input: &str, answers: &str) -> Result<ExitCode, String> {
     let (count, seed): (usize, u64) = (number(count)?, number(seed)?);
+    write_cases(&(0..count).map(|place| generate::mixed(seed, place)).collect::<Vec<_>>(), input, answers)
+}
+
+/// What is added comes behind what was there, so that no stored case moves.
+fn store(counts: [&str; 2], seed: &str, files: [&str; 2], models: &[&str]) -> Result<ExitCode, String> {
+    let (count, formulas, seed): (usize, usize, u64) = (number(counts[0])?, number(counts[1])?, number(seed)?);
     let mut cases = Vec::new();
     for file in models {
         let text = load(file)?;
@@ -80,8 +92,14 @@ fn make(count: &str, seed: &str, input: &str, answer_file: &str, models: &[&str]
         cases.push(limits::model_case(text));
     }
     cases.extend((0..count).map(|place| generate::case(seed, place)));
+    cases.extend(formula::listed::cases());
+    cases.extend((0..formulas).map(|place| formula::mixture::case(seed, place)));
+    write_cases(&cases, files[0], files[1])
+}
+
+fn write_cases(cases: &[Vec<u8>], input: &str, answers: &str) -> Result<ExitCode, String> {
     save(input, &cases.iter().flat_map(|case| frames::frame(case)).collect::<Vec<u8>>())?;
-    save(answer_file, &ended_answers(cases.iter().map(Vec::as_slice)))?;
+    save(answers, &ended_answers(cases.iter().map(Vec::as_slice)))?;
     Ok(ExitCode::SUCCESS)
 }
 

@@ -53,11 +53,11 @@ pub fn read(text: &[u8]) -> (Question, Asking) {
     (question, asking)
 }
 
-fn numbers(line: &str) -> Vec<usize> {
+pub fn numbers(line: &str) -> Vec<usize> {
     let fields = line.split(',').filter(|field| !field.is_empty());
-    fields.map(|field| field.parse().expect("a number in a path question")).collect()
+    fields.map(|field| field.parse().expect("a number in a list of numbers")).collect()
 }
 
-fn narrow(line: &str) -> Vec<u16> {
+pub fn narrow(line: &str) -> Vec<u16> {
     numbers(line).iter().map(|&number| number as u16).collect()
 }

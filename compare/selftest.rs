@@ -8,7 +8,7 @@ use crate::model::{letters, Model};
 use crate::models;
 use crate::question::{self, Asking, Question};
 use crate::random::Random;
-use crate::{frames, generate, reader};
+use crate::{formula, frames, generate, reader};
 use std::process::ExitCode;
 
 pub fn run() -> ExitCode {
@@ -22,6 +22,7 @@ pub fn run() -> ExitCode {
     order_of_refusals();
     completions();
     framing();
+    formula::selftest();
     println!("selftest ok");
     ExitCode::SUCCESS
 }
@@ -196,7 +197,7 @@ fn completions() {
 }
 
 fn framing() {
-    let made: Vec<Vec<u8>> = (0..200).map(|number| generate::case(3, number)).collect();
+    let made: Vec<Vec<u8>> = (0..200).map(|number| generate::mixed(3, number)).collect();
     let bytes: Vec<u8> = made.iter().flat_map(|case| frames::frame(case)).collect();
     assert_eq!(frames::cases(&bytes).unwrap(), made);
     let (whole, other) = (b"yes\n.\nnone\n.\n", b"yes\n.\nend\n.\n");

@@ -17,7 +17,7 @@ struct Counts {
 pub fn print(count: usize, seed: u64) {
     let mut counts = Counts::default();
     for number in 0..count {
-        let case = generate::case(seed, number);
+        let case = generate::mixed(seed, number);
         let answer = answers::answer(&case);
         counts.input_bytes += frames::frame(&case).len();
         counts.answer_bytes += answer.len() + 2;
@@ -30,7 +30,7 @@ pub fn print(count: usize, seed: u64) {
         line(&counts.last_rows)
     );
     println!("accepted models judged by listing every walk too: {}", counts.walked);
-    for kind in ['M', 'F', 'N', 'C'] {
+    for kind in ['M', 'F', 'N', 'C', 'R', 'P', 'K', 'Q'] {
         let of_kind: BTreeMap<String, usize> =
             counts.answers.iter().filter(|((k, _), _)| *k == kind).map(|((_, a), n)| (a.clone(), *n)).collect();
         println!("answers to {kind}: {}", line(&of_kind));
@@ -47,13 +47,16 @@ impl Counts {
         let kind = case[0] as char;
         *self.cases.entry(kind.to_string()).or_default() += 1;
         *self.answers.entry((kind, name(kind, answer))).or_default() += 1;
-        if kind != 'M' || !answer.starts_with("answer=0\n") {
+        if !['M', 'Q'].contains(&kind) || !answer.starts_with("answer=0\n") {
             return;
         }
         let last = answer.lines().rfind(|line| line.starts_with("row=")).unwrap();
         last[4..].chars().for_each(|letter| *self.last_rows.entry(letter).or_default() += 1);
         let verdict = answer.trim_end().chars().last().unwrap();
         *self.verdicts.entry(verdict).or_default() += 1;
+        if kind == 'Q' {
+            return;
+        }
         let judged = reader::read(&case[2..]).and_then(|model| judge::judge_whole(&model));
         self.walked += judged.is_ok_and(|judged| judged.by_walks) as usize;
     }
@@ -65,7 +68,7 @@ fn name(kind: char, answer: &str) -> String {
     let refusal = answer.strip_prefix("answer=").and_then(|rest| rest.trim_end().parse::<usize>().ok());
     match (refusal, kind) {
         (Some(number), _) => format!("refused {number:02}:"),
-        (None, 'M') => String::from("accepted:"),
+        (None, 'M' | 'R' | 'P' | 'K' | 'Q') => String::from("accepted:"),
         (None, 'F') if answer.ends_with("more\n") => String::from("more than 200 paths:"),
         (None, 'F') if paths == 1 => String::from("one path:"),
         (None, 'F') if paths > 1 => String::from("several paths:"),

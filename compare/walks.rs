@@ -8,11 +8,7 @@ const MOST_STEPS: usize = 3_000_000;
 /// The rows of all nodes, or nothing where the walks are too many to list.
 pub fn rows(model: &Model) -> Option<Vec<Vec<u8>>> {
     let next = successors(model.states, &model.transitions);
-    let count = walk_count(&next);
-    if count > MOST_WALKS || count * model.states * model.states > MOST_STEPS {
-        return None;
-    }
-    let walks: Vec<Vec<Vec<usize>>> = (0..model.states).map(|state| walks_from(state, &next)).collect();
+    let walks = listed(&next)?;
     let mut rows: Vec<Vec<u8>> = Vec::new();
     for node in model.nodes.chunks(3) {
         let row = (0..model.states).map(|state| verdict(model, node, state, &rows, &next, &walks[state]));
@@ -20,6 +16,15 @@ pub fn rows(model: &Model) -> Option<Vec<Vec<u8>>> {
         rows.push(row);
     }
     Some(rows)
+}
+
+/// The walks from each state, or nothing where they are too many.
+pub fn listed(next: &[Vec<usize>]) -> Option<Vec<Vec<Vec<usize>>>> {
+    let (states, count) = (next.len(), walk_count(next));
+    if count > MOST_WALKS || count * states * states > MOST_STEPS {
+        return None;
+    }
+    Some((0..states).map(|state| walks_from(state, next)).collect())
 }
 
 fn verdict(
@@ -45,7 +50,7 @@ fn verdict(
 }
 
 /// The greatest, over the places, of the smallest of the right value there and the left values before.
-fn until_value(walk: &[usize], left: &[u8], right: &[u8]) -> u8 {
+pub fn until_value(walk: &[usize], left: &[u8], right: &[u8]) -> u8 {
     let at = |place: usize| {
         let before = walk[..place].iter().map(|&state| left[state]);
         before.chain([right[walk[place]]]).min().unwrap()

@@ -1,4 +1,4 @@
-# How ./desk and ./witness run their program and tell its answer.
+# How ./ask, ./desk and ./witness run their program and tell its answer.
 # shellcheck shell=sh disable=SC2154,SC2034 # names that another of these files sets or reads
 
 # Programs are for x86-64; on another processor the kit has an emulator. They get no environment: it could only mislead loader and emulator.
@@ -37,7 +37,7 @@ run() { # ARGUMENTS
     [ -n "$first" ] || die 3 "the program wrote no answer"
 }
 
-# What a number means, and what it was in this model.
+# What a number means, and what it was in this model or this formula.
 explain() { # NUMBER [AWK-SETTINGS]
     number=$1
     shift
@@ -45,6 +45,7 @@ explain() { # NUMBER [AWK-SETTINGS]
     say "refused with $number: ${words:-docs/RULES.md has no such number}"
     cause=$(find_cause "$number" "$@")
     [ -z "$cause" ] || say "$cause"
+    [ "$number" != 20 ] || grammar >&2
 }
 
 find_cause() { # NUMBER [AWK-SETTINGS]
@@ -53,7 +54,8 @@ find_cause() { # NUMBER [AWK-SETTINGS]
     ended=$(tail -c 1 <"$model" | wc -l)
     size=$(wc -c <"$model")
     [ "$size" -lt "$most_kept" ] || size="$size or more"
-    tr '\000' '?' <"$model" | awk -v number="$number" -v ended="$ended" -v size="$size" \
+    tr '\000' '?' <"$model" | asked=${formula-} awk -v number="$number" -v ended="$ended" -v size="$size" -v by_formula="${formula+yes}" \
         -v most_states="$(most states)" -v most_atoms="$(most atoms)" -v most_transitions="$(most transitions)" -v most_nodes="$(most nodes)" \
-        -v most_text="$(most text)" -v most_kind="$(most kind)" "$@" -f "$root/scripts/cause.awk"
+        -v most_text="$(most text)" -v most_formula="$(most formula)" -v most_kind="$(most kind)" "$@" \
+        -f "$root/scripts/formula.awk" -f "$root/scripts/cause.awk"
 }

@@ -1,6 +1,7 @@
 # What a refusal's number was in this model: reads the model's text as far as its form holds and prints one line, or none where nothing is
-# found. It serves the messages of ./desk and ./witness alone; what is judged or refused, the programs say.
-# Set before: number, ended (1 where the text ends in a line feed), size (bytes), most_.. (the limits); node or start for a path question.
+# found. It serves the messages of the scripts alone; what is judged or refused, the programs say. formula.awk is read before it.
+# Set before: number, ended (1 where the text ends in a line feed), size (bytes), most_.. (the limits); node or start for a path question;
+# by_formula where a formula was asked, which the environment has as `asked`: in a setting awk would read its backslashes.
 function is_number(s) { return s ~ /^(0|[1-9][0-9]*)$/ && length(s) <= 5 && s + 0 <= 65535 }
 function are_numbers(s, n, part, i) {
     if (split(s, part, ",") != n) return 0
@@ -36,7 +37,8 @@ function meet_count(at, value) {
     if (at == 1 && number == 1) found(range(1, most_states, "states", value))
     if (at == 2 && number == 2) found(range(0, most_atoms, "atoms", value))
     if (at == 5 && number == 6) found(range(1, most_transitions, "transitions", value))
-    if (at == 7 && number == 10) found(range(1, most_nodes, "nodes", value))
+    if (at == 7 && number == 10 && (value + 0 < 1 || value + 0 > plain(most_nodes)))
+        found((by_formula ? "the model's own nodes: " : "") range(1, most_nodes, "nodes", value))
 }
 function meet_edge(value, part) {
     split(value, part, ",")
@@ -52,7 +54,7 @@ function meet_node(value, part, this, i, use) {
     this = "line " NR ", node=" value " (node " nodes "): "
     kind[nodes] = part[1] + 0
     if (number == 11 && kind[nodes] > most_kind + 0) found(this "kinds are 0 to " most_kind)
-    if (number == 12 && kind[nodes] in uses)
+    if (number == 12 && !by_formula && kind[nodes] in uses)
         for (i = 1; i <= 2; i++) {
             use = substr(uses[kind[nodes]], i, 1)
             if (use == "n" && part[i + 1] + 0 >= nodes) found(this part[i + 1] " is no earlier node; " below(nodes, "earlier nodes"))
@@ -85,6 +87,9 @@ END {
     if (number == 9) for (s = 0; s < count["states"]; s++) if (!(s in leaves)) found("state " s " has no transition out")
     if (number == 15) found(below(count["states"], "states") ", here " start)
     if (number == 18) found("at most " most_text " bytes, here " size)
+    if (by_formula && number == 10) found("a formula has at most " most_nodes " nodes, here " nodes_in(ENVIRON["asked"]))
+    if (by_formula && number == 12) found(atom_beyond(ENVIRON["asked"], count["atoms"]))
+    if (by_formula && number == 20) found(fault_in(ENVIRON["asked"]))
     if (number == "node") {
         for (i = 0; i < nodes; i++) if (kind[i] == 5) untils = untils (untils == "" ? "" : ", ") i
         if (node + 0 >= nodes) found(below(nodes, "nodes") ", here " node)

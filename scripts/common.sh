@@ -1,4 +1,4 @@
-# What ./desk and ./witness share: how they speak and end, and how a model is taken in. They read it after setting `name` and `root`.
+# What ./ask, ./desk and ./witness share: how they speak and end, and how a model is taken in. They read it after setting `name` and `root`.
 # shellcheck shell=sh disable=SC2154,SC2034,SC3013 # names that another of these files sets or reads; -ef, which every sh of Linux has
 LC_ALL=C
 export LC_ALL
@@ -14,6 +14,8 @@ die() { # STATUS WORDS
     say "$@"
     exit "$status"
 }
+
+wrong() { die 2 "$*; ./$name --help explains the use"; }
 
 # A closed descriptor is remembered, and no file that is opened later takes its number.
 (exec 3>&2) || exec 2>/dev/null
@@ -129,6 +131,20 @@ take_in() { # FILE
     die 2 "$from can't be read: $(sed -n '$s/.*: //p' "$own/said")"
 }
 
+# The formula that is asked, where one is; the caller's environment has no say in it.
+unset formula
+
+# As every formula begins, or its first word without quotes. Whether it is one, the program says.
+begins_formula() { # WORD
+    case $1 in T | p[0-9]* | '!'* | '('* | EX | 'EX '* | 'E('* | 'A('*) ;; *) return 1 ;; esac
+}
+
+# In a call without a file, a word that may be a file is one whose question was forgotten, and no model is waited for.
+not_forgotten() { # WORD
+    [ ! -e "$1" ] || wrong "'$1' is a file, and what is asked of it isn't whole; where it is the formula, write - before it"
+    begins_formula "$1" || wrong "'$1' is neither a file nor a formula"
+}
+
 # A cell of a table in the rules: of the section, in the row that begins with the key.
 rule() { # SECTION KEY
     awk -F ' *[|] *' -v section="$1" -v key="$2" '/^## / { on = $0 == "## " section } on && $2 == key { print $3; exit }' <"$root/docs/RULES.md"
@@ -136,6 +152,12 @@ rule() { # SECTION KEY
 
 # A limit as the rules write it, 1,024 say.
 most() { rule Limits "$1"; }
+
+# The grammar of a formula as the rules have it, a line for each form.
+grammar() {
+    awk -F ' *[|] *' '/^## / { on = $0 == "## Formulas" } on && $2 ~ /^`/ { gsub("`", "", $2); printf "  %-12s%s\n", $2, $3 }' <"$root/docs/RULES.md"
+    echo "  f and g are formulas again; there is one blank where it is shown, and nowhere else"
+}
 
 . "$root/scripts/build.sh"
 . "$root/scripts/answer.sh"

@@ -33,7 +33,7 @@ none_at_work() {
     return 1
 }
 good() { status 0 && wrote "$answer" && no_scratch; }
-unbuilt() { rm -rf "$house"/target/bin "$house"/target/built* "$house"/target/*.built "$house"/target/stamp/desk "$house"/target/stamp/witness; }
+unbuilt() { rm -rf "$house"/target/bin "$house"/target/built* "$house"/target/*.built "${stand_ins[@]/#/$house/target/stamp/}"; }
 as_nobody() { # COMMAND
     if [ "$(id -u)" = 0 ]; then call setpriv --reuid=65534 --regid=65534 --clear-groups "$@"; else call "$@"; fi
 }

@@ -2,7 +2,7 @@
 # shellcheck shell=bash disable=SC2154,SC2034 # names that another of these files sets or reads
 first_call() {
     call "$desk" good >"$out"
-    good && builds 1 && says "proving and building" && says "of 3: "
+    good && builds 1 && says "proving and building" && says "of $((${#stand_ins[@]} + 1)): "
 }
 two_at_once() {
     for round in $(seq "${ROUNDS:-10}"); do
@@ -56,6 +56,13 @@ damaged() { # COMMAND on the program
     call "$desk" good >"$out"
     good && builds 1
 }
+one_more() { # a checkout in which another program wasn't there at the last build
+    settle
+    rm -f "$house/target/bin/${stand_ins[-1]}"
+    sed -i "/ ${stand_ins[-1]}\$/d" "$house/target/built"
+    call "$desk" good >"$out"
+    good && builds 1 && [ "$(wc -l <"$house/target/built")" = $((${#stand_ins[@]} + 1)) ]
+}
 spoil() { printf x | dd of="$1" bs=1 seek=4000 conv=notrunc 2>/dev/null; }
 empty() { : >"$1"; }
 unproved() {
@@ -101,6 +108,7 @@ try "a source with a new date, unchanged" new_date
 try "a program with a byte changed" damaged spoil
 try "a program emptied" damaged empty
 try "a program removed" damaged rm
+try "a program more than at the last build" one_more
 try "a source that isn't proved, and the call after it" unproved
 try "a target that can't be made" no_target
 try "a target that can't be written, with programs that are current" locked_target

@@ -37,7 +37,7 @@ try "refusal 12, an unused number" refused 12 "${graph/node=1,0,0/node=1,0,3}" "
 try "refusal 19, a wrong key" refused 19 'states=2\natom=1\n' "line 2 breaks the form; due there: atoms="
 try "refusal 19, a short line" refused 19 'states=3\natoms=1\ninit=10\n' "for each state (3), here 2"
 try "refusal 19, a carriage return" refused 19 'states=3\r\n' "line 1 ends in a carriage return"
-try "./witness, a wrong node" asked "'x' is no node" x 0 true
+try "./witness, a wrong node" asked "'07' is no node" 07 0 true
 try "./witness, a wrong state" asked "'01' is no state" 0 01 true
 try "./witness, a wrong level" asked "'maybe' is no level" listed 0 0 maybe
 try "./witness, a wrong level before a count" asked "'treu' is no level" 0 0 treu 5

@@ -8,7 +8,7 @@ use lib.ListN.{length}
 use lib.Dec.{ltb, eqb}
 use borrow.Author.Tests.{eq-eqb, ne-eqb, lt-ltb, le-ltb, le-leb, ltb-true, ltb-false, eqb-true}
 use Rattle.lists.specs.Entries.{at}
-use Rattle.values.proofs.Decimals.{cap, numeral-more}
+use Rattle.values.proofs.Decimals.{cap, digit-at, decimal-digit, decimal-grown}
 use Rattle.values.specs.Signs.{decimal, digits, numeral}
 use Rattle.form.specs.Readers.{placeOf, mayGrow, numberFrom, number}
 use Rattle.form.specs.Readers.Reading.{found}
@@ -38,6 +38,10 @@ sign-place (g ∷ gs) c h = go (eqb g c) refl (λ k. sign-place gs c k)
     go false e later =
         let p : placeOf (g ∷ gs) c ≡ suc (placeOf gs c) = simp (placeOf, e) in
         ap (at (g ∷ gs)) p ∙ later (omega (arith, p, h))
+
+-- the byte of a digit, by its place
+digit-byte : (c : ℕ) → placeOf digits c < 10 → 48 + placeOf digits c ≡ c
+digit-byte c h = sym (digit-at (placeOf digits c) h) ∙ sign-place digits c h
 
 digits-apart : Apart digits
 unfolding placeOf
@@ -70,15 +74,10 @@ module _ (stop : ℕ) (other : placeOf digits stop ≡ 10) where
   unfolding numberFrom
   number-reads m t b = number-digits 4 m (stop ∷ t) (omega arith) b ∙ simp (numberFrom, eq-eqb stop stop refl)
 
-decimal-grown : (a c : ℕ) → mayGrow a (placeOf digits c) ≡ true → decimal (a * 10 + placeOf digits c) ≡ decimal a ++ (c ∷ [])
-unfolding numeral
-decimal-grown a c e =
+grown : (a c : ℕ) → mayGrow a (placeOf digits c) ≡ true → decimal (a * 10 + placeOf digits c) ≡ decimal a ++ (c ∷ [])
+grown a c e =
     let g = grows a (placeOf digits c) e in
-    let m = a * 10 + placeOf digits c in
-    let d : m / 10 ≡ a = omega (arith, g .digit) in
-    let r : m % 10 ≡ placeOf digits c = omega (arith, g .digit) in
-    simp (le-ltb m 10 (omega (arith, g .some)), d, r, sign-place digits c (g .digit))
-    (ap (λ (l : List ℕ). l ++ (c ∷ [])) (numeral-more 3 a (omega (arith, g .most))))
+    decimal-grown a (placeOf digits c) (g .some) (g .digit) (g .most) ∙ ap (λ (x : ℕ). decimal a ++ (x ∷ [])) (digit-byte c (g .digit))
 
 Said : ℕ → ℕ → ℕ → List ℕ → List ℕ → Type 0
 Said stop a n s rest = (decimal a ++ s ≡ decimal n ++ (stop ∷ rest)) × (n ≤ 65535)
@@ -93,7 +92,7 @@ from-back stop (c ∷ s) a n rest b e = stops (eqb c stop) refl (λ h d. from-ba
         → Said stop a n (c ∷ s) rest
     goes f true g later =
         let w = later (grows a (placeOf digits c) g .most) (simp (numberFrom, f, g) at e) in
-        (sym (append-assoc (decimal a) (c ∷ []) s) ∙ ap (λ (x : List ℕ). x ++ s) (sym (decimal-grown a c g)) ∙ w .0, w .1)
+        (sym (append-assoc (decimal a) (c ∷ []) s) ∙ ap (λ (x : List ℕ). x ++ s) (sym (grown a c g)) ∙ w .0, w .1)
     goes f false g later = absurd (refused-found (simp (numberFrom, f, g) at e))
 
     stops : (x : Bool) → eqb c stop ≡ x
@@ -105,9 +104,8 @@ from-back stop (c ∷ s) a n rest b e = stops (eqb c stop) refl (λ h d. from-ba
         (rw (p .0, p .1, q), subst (λ (x : ℕ). x ≤ 65535) (p .0) b)
     stops false f later = goes f (mayGrow a (placeOf digits c)) refl later
 
-decimal-digit : (c : ℕ) → placeOf digits c < 10 → decimal (placeOf digits c) ≡ c ∷ []
-unfolding numeral
-decimal-digit c h = simp (lt-ltb (placeOf digits c) 10 h, sign-place digits c h)
+alone : (c : ℕ) → placeOf digits c < 10 → decimal (placeOf digits c) ≡ c ∷ []
+alone c h = decimal-digit (placeOf digits c) h ∙ ap (λ (x : ℕ). x ∷ []) (digit-byte c h)
 
 pub number-back : (stop : ℕ) (s : List ℕ) (n : ℕ) (rest : List ℕ) → number stop s ≡ found n rest → (s ≡ decimal n ++ (stop ∷ rest)) × (n ≤ 65535)
 unfolding number Said
@@ -118,5 +116,5 @@ number-back stop (c ∷ s) n rest e = go (ltb (placeOf digits c) 10) refl
     go true f =
         let h : placeOf digits c < 10 = ltb-true (placeOf digits c) 10 f in
         let w = from-back stop s (placeOf digits c) n rest (omega arith) (simp (number, f) at e) in
-        (ap (λ (x : List ℕ). x ++ s) (sym (decimal-digit c h)) ∙ w .0, w .1)
+        (ap (λ (x : List ℕ). x ++ s) (sym (alone c h)) ∙ w .0, w .1)
     go false f = absurd (refused-found (simp (number, f) at e))

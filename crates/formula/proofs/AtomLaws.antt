@@ -16,7 +16,8 @@ use Rattle.values.specs.Signs.{decimal}
 use Rattle.formula.specs.declared.atoms.Atom.{Atom}
 use Rattle.formula.specs.declared.atoms.Atom.the-variants as atom
 use Rattle.formula.specs.Inside.{isDigit, Stops, endedAt, AtomFound, AtomAt}
-use Rattle.formula.proofs.Numbers.{Digits, said, said-append, said-more, digit-is, one-more, Says, decimal-says, decimal-digit, decimal-grown, cut-once, GoesOn, goes-on}
+use Rattle.values.proofs.Decimals.{decimal-digit, decimal-grown}
+use Rattle.formula.proofs.Numbers.{Digits, said, said-append, said-more, digit-is, one-more, Says, decimal-says, cut-once, GoesOn, goes-on}
 
 -- the value of a digit, 10 of another byte
 abbrev pub digitOf : ℕ → ℕ

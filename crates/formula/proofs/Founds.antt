@@ -1,16 +1,13 @@
 -- What each way out of the readers shows, from what the parts were.
-use Prim.Native.Nat.{ℕ, zero, suc, _+_, _-_, _*_, _<_, _≤_}
+use Prim.Native.Nat.{ℕ, _+_, _-_, _*_, _<_, _≤_}
 use mathlib.Core.Path.{_≡_, refl, ap, sym, _∙_, subst}
-use mathlib.Core.List.{List, [], _∷_, _++_, append-assoc}
-use mathlib.Core.Bool.{Bool, true, false, true≢false}
-use mathlib.Core.Logic.{_⊎_, inl, inr}
-use native.Mathlib.Nat.{add-zero}
+use mathlib.Core.List.{List, [], _∷_, _++_}
+use mathlib.Core.Bool.{false}
 use native.Mathlib.Omega.{arith}
-use lib.ListN.{length, drop, length-append, length-drop}
-use lib.Seq.{drop-drop}
+use lib.ListN.{length, drop}
 use Rattle.lists.specs.Rows.{Put}
 use Rattle.lists.proofs.Placed.{put-then}
-use Rattle.values.specs.Limits.{mostAtoms, mostNodes}
+use Rattle.values.specs.Limits.{mostNodes}
 use Rattle.values.specs.Signs.{decimal}
 use Rattle.formula.specs.declared.signs.Sign.{Sign}
 use Rattle.formula.specs.declared.atoms.Atom.{Atom}
@@ -20,58 +17,10 @@ use Rattle.formula.specs.declared.reading.Parsed.the-variants as parsed
 use Rattle.formula.specs.Tree.{Prefix, Pair, Formula, TRUE, ATOM, one, two, size, Named}
 use Rattle.formula.specs.Text.{sign, opening, middle, closing, textOf}
 use Rattle.formula.specs.Nodes.{prefixKind, pairKind, nodesFrom}
-use Rattle.formula.specs.Inside.{begins, Stops, SignAt, MiddleAt, AtomFound, AtomAt, Begins, Only, NoneOf, Any, Term, Leaf, NodePut, Found, Parses, Placed}
-use Rattle.formula.proofs.Beginnings.{begins-with}
-use Rattle.formula.proofs.Operators.{each-prefix, each-pair}
+use Rattle.formula.specs.Inside.{begins, AtomFound, AtomAt, Only, NoneOf, Any, Term, Leaf, NodePut, Found, Parses, Placed}
+use Rattle.formula.proofs.Marks.{There, SignThere, prefix-some, opening-some, middle-some}
 use Rattle.formula.proofs.Shapes.{one-behind, two-behind}
-use Rattle.formula.proofs.OneReading.{only-true, only-atom, only-one, only-two, none-one, none-first, none-middle, none-second, none-closing, none-atom, none-leaf, none-term, none-any}
-
--- bytes that stand at a place: the text from there is they and what is behind
-pub record There (bytes s : List ℕ) (place behind : ℕ) : Type 0 where
-  pub text : drop place s ≡ bytes ++ drop behind s
-  pub inside : behind ≤ length s
-  pub size : behind ≡ place + length bytes
-
-pub there : (bytes s : List ℕ) (place : ℕ) → place ≤ length s → begins bytes (drop place s) ≡ true → There bytes s place (place + length bytes)
-there bytes s place h e =
-    let t : drop place s ≡ bytes ++ drop (length bytes) (drop place s) = begins-with bytes (drop place s) e in
-    let a : length (drop place s) ≡ length bytes + length (drop (length bytes) (drop place s)) = ap length t ∙ length-append bytes (drop (length bytes) (drop place s)) in
-    let l = length-drop place s in
-    record { text = t ∙ ap (λ (x : List ℕ). bytes ++ x) (drop-drop (length bytes) place s); inside = omega (arith, a, l); size = refl }
-
--- a sign of some size
-pub record SignThere {A : Type 0} (signOf : A → List ℕ) (kindOf : A → ℕ) (s : List ℕ) (place : ℕ) (r : Sign) : Type 0 where
-  pub which : A
-  pub kind : r .kind ≡ kindOf which
-  pub there : There (signOf which) s place (place + r .size)
-
-pub sign-there : {A : Type 0} (signOf : A → List ℕ) (kindOf : A → ℕ) (s : List ℕ) (place : ℕ) (r : Sign) → place ≤ length s
-    → SignAt signOf kindOf s place r → (r .size ≡ 0 → ⊥) → SignThere signOf kindOf s place r
-sign-there signOf kindOf s place r h (inl x) n =
-    record { which = x .0; kind = x .2; there = subst (λ (k : ℕ). There (signOf (x .0)) s place (place + k)) (sym (x .3)) (there (signOf (x .0)) s place h (x .1)) }
-sign-there signOf kindOf s place r h (inr x) n = absurd (n (x .1))
-
-pub sign-gone : {A : Type 0} (signOf : A → List ℕ) (kindOf : A → ℕ) (s : List ℕ) (place : ℕ) (r : Sign) → ((a : A) → 0 < length (signOf a))
-    → SignAt signOf kindOf s place r → r .size ≡ 0 → (a : A) → begins (signOf a) (drop place s) ≡ false
-sign-gone signOf kindOf s place r some (inl x) e = absurd (let l = some (x .0) in omega (arith, l, x .3, e))
-sign-gone signOf kindOf s place r some (inr x) e = x .0
-
-pub prefix-some : (p : Prefix) → 0 < length (sign p)
-prefix-some = each-prefix (λ (p : Prefix). 0 < length (sign p)) (omega arith) (omega arith)
-
-pub opening-some : (q : Pair) → 0 < length (opening q)
-opening-some = each-pair (λ (q : Pair). 0 < length (opening q)) (omega arith) (omega arith) (omega arith)
-
-middle-some : (q : Pair) → 0 < length (middle q)
-middle-some = each-pair (λ (q : Pair). 0 < length (middle q)) (omega arith) (omega arith) (omega arith)
-
-pub middle-there : (q : Pair) (s : List ℕ) (place r : ℕ) → place ≤ length s → MiddleAt q s place r → (r ≡ 0 → ⊥) → There (middle q) s place (place + r)
-middle-there q s place r h (inl x) n = subst (λ (k : ℕ). There (middle q) s place (place + k)) (sym (x .1)) (there (middle q) s place h (x .0))
-middle-there q s place r h (inr x) n = absurd (n (x .1))
-
-pub middle-gone : (q : Pair) (s : List ℕ) (place r : ℕ) → MiddleAt q s place r → r ≡ 0 → begins (middle q) (drop place s) ≡ false
-middle-gone q s place r (inl x) e = absurd (let l = middle-some q in omega (arith, l, x .1, e))
-middle-gone q s place r (inr x) e = x .0
+use Rattle.formula.proofs.OneReading.{only-true, only-atom, only-one, only-two, none-second, none-closing, none-atom, none-term, none-any}
 
 -- an answer opened
 pub found-of : (Sort : Formula → Type 0) (s : List ℕ) (place n : ℕ) (before after : List ℕ) (r : Parsed) (end m : ℕ) → r ≡ parsed.To end m

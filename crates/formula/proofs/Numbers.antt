@@ -6,11 +6,11 @@ use mathlib.Core.Bool.{Bool, true, false, true≢false}
 use native.Mathlib.Omega.{arith}
 use lib.ListN.{length, length-append, List·getD-append}
 use lib.Dec.{ltb}
-use borrow.Author.Tests.{lt-ltb, le-ltb, le-leb, ltb-true, ltb-false}
+use borrow.Author.Tests.{lt-ltb, le-leb, ltb-true, ltb-false}
 use Rattle.lists.specs.Entries.{at, All}
 use Rattle.lists.proofs.Tests.{and-both}
 use Rattle.values.specs.Signs.{decimal, digits, numeral}
-use Rattle.values.proofs.Decimals.{cap, digit-at, numeral-more}
+use Rattle.values.proofs.Decimals.{cap, digit-at}
 use Rattle.formula.specs.Inside.{isDigit, Stops}
 
 abbrev pub Digits : List ℕ → Type 0
@@ -75,18 +75,6 @@ numeral-says (suc k) a h = go (ltb a 10) refl (numeral-says k (a / 10) (omega ar
 
 pub decimal-says : (a : ℕ) → a ≤ 65535 → Says a (decimal a)
 decimal-says a h = numeral-says 4 a (omega arith)
-
-pub decimal-digit : (d : ℕ) → d < 10 → decimal d ≡ (48 + d) ∷ []
-unfolding numeral
-decimal-digit d h = simp (lt-ltb d 10 h, digit-at d h)
-
-pub decimal-grown : (a d : ℕ) → 0 < a → d < 10 → a * 10 + d ≤ 65535 → decimal (a * 10 + d) ≡ decimal a ++ ((48 + d) ∷ [])
-unfolding numeral
-decimal-grown a d p h b =
-    let m = a * 10 + d in
-    let q : m / 10 ≡ a = omega arith in
-    let r : m % 10 ≡ d = omega arith in
-    simp (le-ltb m 10 (omega arith), q, r, digit-at d h) (ap (λ (l : List ℕ). l ++ ((48 + d) ∷ [])) (numeral-more 3 a (omega arith)))
 
 -- digits up to where none follows: there is one way to cut them off
 pub cut-once : (xs ys r t : List ℕ) → Digits xs → Digits ys → Stops r → Stops t → xs ++ r ≡ ys ++ t → (xs ≡ ys) × (r ≡ t)

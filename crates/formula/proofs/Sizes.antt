@@ -1,10 +1,12 @@
--- How long the parts of a formula are: it has a node, and three numbers a node.
-use Prim.Native.Nat.{ℕ, suc, _+_, _*_, _<_}
+-- How long a formula is: it has a node, three numbers a node, and no more than six signs a node.
+use Prim.Native.Nat.{ℕ, _+_, _*_, _<_, _≤_}
 use mathlib.Core.Path.{_≡_, refl, _∙_}
 use mathlib.Core.List.{[], _∷_, _++_}
 use native.Mathlib.Omega.{arith}
 use lib.ListN.{length, length-append}
-use Rattle.formula.specs.Tree.{Formula, TRUE, ATOM, one, two, size}
+use Rattle.values.proofs.Decimals.{decimal-short}
+use Rattle.formula.specs.Tree.{Prefix, NOT, EX, Pair, AND, EU, AU, Formula, TRUE, ATOM, one, two, size}
+use Rattle.formula.specs.Text.{sign, opening, middle, closing, textOf}
 use Rattle.formula.specs.Nodes.{prefixKind, pairKind, rootFrom, nodesFrom}
 
 pub size-some : (f : Formula) → 0 < size f
@@ -26,3 +28,29 @@ nodes-length n (two q f g) =
     let h = nodes-length n f in
     let k = nodes-length (n + size f) g in
     omega (arith, l, m, h, k)
+
+sign-short : (p : Prefix) → length (sign p) ≤ 6
+sign-short NOT = omega arith
+sign-short EX = omega arith
+
+signs-short : (q : Pair) → length (opening q) + length (middle q) + length closing ≤ 6
+signs-short AND = omega arith
+signs-short EU = omega arith
+signs-short AU = omega arith
+
+pub length-prefixed : (p : Prefix) (f : Formula) → length (textOf (one p f)) ≡ length (textOf f) + length (sign p)
+unfolding textOf
+length-prefixed p f = length-append (sign p) (textOf f) ∙ omega arith
+
+pub length-joined : (q : Pair) (f g : Formula)
+    → length (textOf (two q f g)) ≡ length (textOf f) + length (textOf g) + (length (opening q) + length (middle q) + length closing)
+unfolding textOf
+length-joined q f g = simp length-append (omega arith)
+
+-- no node has more than six signs
+pub text-short : (f : Formula) → length (textOf f) ≤ 6 * size f
+unfolding textOf size
+text-short TRUE = omega arith
+text-short (ATOM a) = omega (arith, decimal-short a)
+text-short (one p f) = omega (arith, length-prefixed p f, sign-short p, text-short f)
+text-short (two q f g) = omega (arith, length-joined q f g, signs-short q, text-short f, text-short g)

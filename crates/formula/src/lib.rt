@@ -4,6 +4,8 @@
 //   atoms     an atom's number
 //   reading   the readers of a formula and of a term, which call each other
 //   nodes     the node space
+//   parts     the formula that ends at a node of a list
+//   printing  its text, put into a space
 //
 // specs/Tree says what a formula is, Text how it is written, Nodes its node list, Meaning its value; Answers what the calls promise.
 use values::limits::MOST_FORMULA;
@@ -12,13 +14,18 @@ use values::limits::MOST_NODES;
 
 mod atoms;
 mod nodes;
+mod parts;
+mod printing;
 mod reading;
 mod signs;
 
 use nodes::copy;
+use parts::Part;
+use parts::accepted_part;
+use printing::write;
 use reading::Parsed;
 use reading::formula;
-ghost use Rattle.formula.specs.Answers.{FormulaRead};
+ghost use Rattle.formula.specs.Answers.{Yields, YieldsPart, FormulaRead, FormulaPrinted};
 
 // What reading answers.
 pub enum Read {
@@ -59,4 +66,42 @@ pub fn read_formula(text: &[u8], nodes: &mut [u16]) -> Read
     }
     copy(&space, 3 * n, nodes);
     Read::Nodes(n)
+}
+
+// Prints the formula that a node list is of into the front of a text space. A refusal leaves all of it.
+pub fn print_formula(nodes: &[u16], text: &mut [u8]) -> Printed
+    ensures { λ r. ⌜ FormulaPrinted (Yields (now (nodes .entry))) (now (text .entry)) (now (text .exit)) r ⌝ }
+{
+    if text.len() < MOST_FORMULA {
+        return Printed::Refused(24);
+    }
+    if nodes.len() == 0 {
+        return Printed::Refused(20);
+    }
+    if nodes.len() % 3 != 0 {
+        return Printed::Refused(20);
+    }
+    let last = nodes.len() / 3 - 1;
+    let whole = accepted_part(nodes, last);
+    let Part::Of(first, _bytes) = whole else {
+        return Printed::Refused(20);
+    };
+    if first != 0 {
+        return Printed::Refused(20);
+    }
+    Printed::Bytes(write(nodes, last, text, 0))
+}
+
+// The same of the formula that one node of a list is the whole of, whatever the nodes behind it are.
+pub fn print_part(nodes: &[u16], node: usize, text: &mut [u8]) -> Printed
+    ensures { λ r. ⌜ FormulaPrinted (YieldsPart (now (nodes .entry)) node) (now (text .entry)) (now (text .exit)) r ⌝ }
+{
+    if text.len() < MOST_FORMULA {
+        return Printed::Refused(24);
+    }
+    let part = accepted_part(nodes, node);
+    let Part::Of(_first, _bytes) = part else {
+        return Printed::Refused(20);
+    };
+    Printed::Bytes(write(nodes, node, text, 0))
 }

@@ -2,10 +2,12 @@
 //
 //   S states   A atoms   L labels   I initial   T transitions   N nodes   V room for verdicts
 //   G level    B start   P left     Q right     R room for a path         X list
+//   K a node whose part is printed
 //
 // A list's row has its length, and then its entries. A code writes numbers from a place of a row on, each with a comma
 // behind it: "S=0," no state, "L=7," a list of seven labels, "T9=4," the ninth number of the transitions.
-// "+" is the first number beyond the limit of states, atoms, transitions or nodes, "*" the first beyond that of kinds.
+// "+" is the first number beyond the limit of states, atoms, transitions or nodes, "*" the first beyond that of kinds, "@" the first that is
+// no atom's.
 use crate::spaces::PATTERN;
 use crate::spaces::PATTERN_NUMBER;
 use crate::spaces::least;
@@ -54,6 +56,7 @@ impl Cursor {
             }
             b'+' => next.value = (beyond(self.row) % 65536) as u16,
             b'*' => next.value = GREATEST_KIND + 1,
+            b'@' => next.value = (MOST_ATOMS % 65536) as u16,
             b'0'..=b'9' => next.value = sum((byte % 16) as u16, self.value as u32 * 10),
             _ => next = Cursor {
                 row: (byte % 32) as u16 * 32,

@@ -7,9 +7,14 @@
 //   F N C    First, Next, Check; * the three in turn, p of the largest model
 //   t        a text read, and judged with the model's room; 1 2 3 4 read alone, one of the tables one entry short
 //   u v w    a text with line feeds up to the limit; one beyond it; the same read alone, the nodes one short
+//   r s      a formula's text read, and printed back; the same, the node space one short
+//   a to f   the same of the text that a code of layers stands for
+//   P S      a list of nodes printed; the same, the text space one short; K U a part of it; x y as many nots as there may be, one more
+//   h        a formula on a line and a model's text, judged with the model's room
 //   m        no case: the code of a model for the cases behind it to change, in place of the base
 use crate::asking;
 use crate::base;
+use crate::formulas;
 use crate::judging;
 use crate::largest;
 use crate::lines;
@@ -28,6 +33,7 @@ use values::limits::MOST_TEXT;
 fn text(letter: u8, name: &[u8], text: &[u8], room: usize) {
     match letter {
         b't' => reading::asked(name, text, room),
+        b'h' => formulas::judged(name, text, room),
         b'u' => reading::padded(name, text, MOST_TEXT, NONE),
         b'v' => reading::padded(name, text, MOST_TEXT + 1, NONE),
         b'w' => reading::padded(name, text, MOST_TEXT + 1, NODES),
@@ -35,7 +41,7 @@ fn text(letter: u8, name: &[u8], text: &[u8], room: usize) {
     }
 }
 
-// A case that is a model or a path question.
+// A case that is a model, a path question or a list of nodes.
 fn tables(letter: u8, name: &[u8], numbers: &[u16]) {
     match letter {
         b'n' => judging::numbered(NIGHT, name, numbers),
@@ -43,6 +49,7 @@ fn tables(letter: u8, name: &[u8], numbers: &[u16]) {
         b'F' => asking::numbered(FIRST, name, numbers),
         b'N' => asking::numbered(NEXT, name, numbers),
         b'C' => asking::numbered(CHECK, name, numbers),
+        b'P' | b'S' | b'K' | b'U' => formulas::numbered(letter, name, numbers),
         _ => {
             asking::numbered(FIRST, name, numbers);
             asking::numbered(NEXT, name, numbers);
@@ -58,7 +65,8 @@ fn asked(letter: u8, name: &[u8], model: &[u8], code: &[u8]) {
         b'o' => largest::most_atoms(name),
         b'k' => lines::limits(),
         b'p' => largest::longest(name),
-        b'n' | b'j' | b'F' | b'N' | b'C' | b'*' => {
+        b'a'..=b'f' | b'r' | b's' | b'x' | b'y' => formulas::asked(letter, name, code),
+        b'n' | b'j' | b'F' | b'N' | b'C' | b'*' | b'P' | b'S' | b'K' | b'U' => {
             let numbers = base::changed(model, code);
             tables(letter, name, &numbers);
         }

@@ -16,6 +16,8 @@ const UNTILS: usize = 1;
 
 const CONJUNCTS: usize = 2;
 
+pub(crate) const NOTS: usize = 3;
+
 // Four transitions out of each state: to itself and the three next ones, the last states to the last four.
 fn transition(i: usize) -> usize {
     let s = i / 8;
@@ -63,15 +65,28 @@ fn conjunct(node: usize, place: usize) -> usize {
     }
 }
 
+// True, and behind it each the not of the node before.
+fn not(node: usize, place: usize) -> usize {
+    if node == 0 {
+        return 0;
+    }
+    match place {
+        0 => 2,
+        1 => node - 1,
+        _ => 0,
+    }
+}
+
 fn number(what: usize, i: usize) -> usize {
     match what {
         TRANSITIONS => transition(i),
         UNTILS => until(i / 3, i % 3),
-        _ => conjunct(i / 3, i % 3),
+        CONJUNCTS => conjunct(i / 3, i % 3),
+        _ => not(i / 3, i % 3),
     }
 }
 
-fn fill(list: &mut [u16], what: usize) {
+pub(crate) fn fill(list: &mut [u16], what: usize) {
     let mut i: usize = 0;
     while i < list.len() {
         list[i] = (number(what, i) % 65536) as u16;

@@ -17,6 +17,14 @@ pub(crate) const JUDGE: usize = 5;
 
 pub(crate) const NIGHT: usize = 6;
 
+pub(crate) const READ_FORMULA: usize = 7;
+
+pub(crate) const PRINT_FORMULA: usize = 8;
+
+pub(crate) const PRINT_PART: usize = 9;
+
+pub(crate) const JUDGE_FORMULA: usize = 10;
+
 // What is lent, whole or behind what was written.
 pub(crate) const REST: usize = 0;
 
@@ -27,6 +35,10 @@ pub(crate) const TABLES: usize = 2;
 pub(crate) const PATH_SPACE: usize = 3;
 
 pub(crate) const LIST: usize = 4;
+
+pub(crate) const NODE_SPACE: usize = 5;
+
+pub(crate) const TEXT_SPACE: usize = 6;
 
 pub(crate) fn write(text: &[u8]) {
     io::write_all(STDOUT_FILENO, text);
@@ -46,22 +58,24 @@ pub(crate) fn count(words: &[u8], k: usize, number: usize) {
 // The limits in force, in the order of the rules' table.
 pub(crate) fn limits() {
     let most = values::limits::in_force();
-    let words = b"limits: states=| atoms=| transitions=| nodes=| text=| kind=|\n|";
+    let words = b"limits: states=| atoms=| transitions=| nodes=| text=| formula=| kind=|\n|";
     count(words, 0, most.states);
     count(words, 1, most.atoms);
     count(words, 2, most.transitions);
     count(words, 3, most.nodes);
     count(words, 4, most.text);
-    count(words, 5, most.kind as usize);
-    say(words, 6);
+    count(words, 5, most.formula);
+    count(words, 6, most.kind as usize);
+    say(words, 7);
 }
 
 // Which call a line is of, and its case.
 pub(crate) fn case(call: usize, name: &[u8]) {
-    let words = b"read, |text, |first, |next, |check, |judge, ||: |";
+    let words = b"read, |text, |first, |next, |check, |judge, ||\
+        read formula, |print formula, |print part, |judge formula, |: |";
     say(words, call);
     write(name);
-    say(words, 7);
+    say(words, 11);
 }
 
 pub(crate) fn answer(number: u8) {
@@ -70,7 +84,8 @@ pub(crate) fn answer(number: u8) {
 
 // The end of a line: whether what is named stayed as it was.
 pub(crate) fn kept(what: usize, same: bool) {
-    let words = b", rest|, verdict space|, tables|, path space|, list| kept\n| changed\n|";
+    let words =
+        b", rest|, verdict space|, tables|, path space|, list|, node space|, text space| kept\n| changed\n|";
     say(words, what);
-    say(words, if same { 5 } else { 6 });
+    say(words, if same { 7 } else { 8 });
 }

@@ -4,6 +4,7 @@ pub mod Verdicts
 pub mod Meaning
 pub mod Parts
 pub mod Formulas
+pub mod Asking
 pub mod Text
 pub mod Paths
 pub mod Nights

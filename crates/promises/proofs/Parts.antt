@@ -40,7 +40,7 @@ parts-count m (two q f g) =
     length-append (partRows m f) (partRows m g ++ (whole ∷ [])) ∙ omega (arith, length-append (partRows m g) (whole ∷ []), parts-count m f, parts-count m g)
 
 -- the last of them is the whole's
-parts-last : (m : Model) (f : Formula) → (before : List (List ℕ)) × (partRows m f ≡ before ++ (valueRow m f ∷ []))
+pub parts-last : (m : Model) (f : Formula) → (before : List (List ℕ)) × (partRows m f ≡ before ++ (valueRow m f ∷ []))
 unfolding partRows
 parts-last m TRUE = ([], refl)
 parts-last m (ATOM a) = ([], refl)

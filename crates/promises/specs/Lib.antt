@@ -3,6 +3,7 @@ pub mod Refusals
 pub mod Verdicts
 pub mod Meaning
 pub mod Formulas
+pub mod Asking
 pub mod Text
 pub mod Paths
 pub mod Nights

@@ -6,25 +6,25 @@ use crate::telling;
 use crate::telling::MOST_TOLD;
 use listing::Call;
 
-// The most numbers that a frame's list of transitions has.
-const TRANSITION_NUMBERS: usize = 2100;
+// The most numbers that a frame's list of transitions or nodes has.
+pub(crate) const LIST_NUMBERS: usize = 2100;
 
 // The first entries of a list, or none where it has fewer.
-fn numbers(list: &[u16], n: usize) -> &[u16] {
+pub(crate) fn numbers(list: &[u16], n: usize) -> &[u16] {
     if list.len() < n {
         return &list[..0];
     }
     &list[..n]
 }
 
-fn bytes(list: &[u8], n: usize) -> &[u8] {
+pub(crate) fn bytes(list: &[u8], n: usize) -> &[u8] {
     if list.len() < n {
         return &list[..0];
     }
     &list[..n]
 }
 
-fn count(number: u16) -> usize {
+pub(crate) fn count(number: u16) -> usize {
     number as usize
 }
 
@@ -58,7 +58,7 @@ fn ask(
 // Lines: states, level, and for First start and room; transitions; left; right; and for Next and Check the list.
 pub(crate) fn question(body: &[u8], kind: u8) {
     let mut head = [0u16; 4];
-    let mut transitions = [0u16; TRANSITION_NUMBERS];
+    let mut transitions = [0u16; LIST_NUMBERS];
     let mut left = [0u8; ENTRIES];
     let mut right = [0u8; ENTRIES];
     let mut list = [0u16; ENTRIES];

@@ -5,9 +5,14 @@
 //   F   a path question with a start and a room: First, and then Next until the end
 //   N   a path question with a list: Next
 //   C   the same: Check
+//   R   a room and a formula's text: the nodes that are read into so many numbers
+//   P   a room and a list of nodes: the text that is printed into so many bytes
+//   K   the same with a node behind the room: its part alone
+//   Q   a formula on a line and a model's text: the formula's row and the model's verdict
 //
 // Behind each answer stands a line with a dot.
 mod asking;
+mod formulas;
 mod numbers;
 mod telling;
 
@@ -41,10 +46,12 @@ fn answer(body: &[u8]) {
         return;
     }
     let kind = body[0];
-    if kind == b'M' {
-        model(&body[2..]);
-    } else {
-        asking::question(body, kind);
+    match kind {
+        b'M' => model(&body[2..]),
+        b'R' => formulas::read(body),
+        b'P' | b'K' => formulas::print(body, kind),
+        b'Q' => formulas::judge(body),
+        _ => asking::question(body, kind),
     }
     io::write_all(STDOUT_FILENO, b".\n");
 }

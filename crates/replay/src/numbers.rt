@@ -93,6 +93,23 @@ pub(crate) fn line_at(body: &[u8], at: usize, numbers: &mut [u16]) -> Numbers
     }
 }
 
+// The bytes of the line from a place on.
+pub(crate) fn line_of(body: &[u8], at: usize) -> &[u8] {
+    if body.len() < at {
+        return &body[..0];
+    }
+    let end = line_end(body, at);
+    &body[at..end]
+}
+
+// The bytes from a place on.
+pub(crate) fn rest_of(body: &[u8], at: usize) -> &[u8] {
+    if body.len() < at {
+        return &body[..0];
+    }
+    &body[at..]
+}
+
 // Numbers as bytes.
 fn to_bytes(numbers: &[u16], bytes: &mut [u8]) {
     let mut i: usize = 0;

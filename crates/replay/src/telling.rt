@@ -1,7 +1,9 @@
-// Answers of the path calls, written out.
+// Answers of the path calls and of the formula calls, written out.
+use crate::asking::bytes;
 use answer::MOST_LINE;
 use answer::MOST_PATH_LINE;
 use answer::Written;
+use formula::Printed;
 use libc::STDOUT_FILENO;
 use listing::Call;
 use listing::Told;
@@ -18,6 +20,13 @@ fn put(written: Written, line: &[u8]) {
     if n <= line.len() {
         io::write_all(STDOUT_FILENO, &line[..n]);
     }
+}
+
+// The number of a refusal, or 0.
+pub(crate) fn number(number: u8) {
+    let mut line = [0u8; MOST_LINE];
+    let written = answer::write_number(number, &mut line);
+    put(written, &line);
 }
 
 // Line after line, so many at the most: path after path, and how the listing ends.
@@ -72,10 +81,36 @@ pub(crate) fn checked(
         CheckAnswer::No => {
             io::write_all(STDOUT_FILENO, b"no\n");
         }
-        CheckAnswer::Refused(number) => {
-            let mut line = [0u8; MOST_LINE];
-            let written = answer::write_number(number, &mut line);
-            put(written, &line);
+        CheckAnswer::Refused(refusal) => number(refusal),
+    }
+}
+
+// The numbers of the nodes that were read, as a path's line has its states behind five bytes.
+pub(crate) fn nodes(list: &[u16]) {
+    let mut line = [0u8; MOST_PATH_LINE];
+    let Written::Bytes(n) = answer::write_path(list, &mut line) else {
+        return;
+    };
+    if n < 5 {
+        return;
+    }
+    if line.len() < n {
+        return;
+    }
+    number(0);
+    io::write_all(STDOUT_FILENO, b"nodes=");
+    io::write_all(STDOUT_FILENO, &line[5..n]);
+}
+
+// The text that was printed at the front of a space.
+pub(crate) fn printed(answer: Printed, space: &[u8]) {
+    match answer {
+        Printed::Bytes(n) => {
+            number(0);
+            io::write_all(STDOUT_FILENO, b"text=");
+            io::write_all(STDOUT_FILENO, bytes(space, n));
+            io::write_all(STDOUT_FILENO, b"\n");
         }
+        Printed::Refused(refusal) => number(refusal),
     }
 }

@@ -11,7 +11,8 @@ use Rattle.lists.specs.Rows.{fill}
 use Rattle.values.specs.Limits.{mostNodeNumbers}
 use Rattle.model.specs.Model.{Model, asModel, nodeCount}
 use Rattle.ctl.specs.Answers.{Judging}
-use Rattle.formula.specs.Tree.{size}
+use Rattle.formula.specs.Tree.{Formula}
+use Rattle.formula.specs.Text.{textOf}
 use Rattle.formula.specs.Nodes.{nodesOf}
 use Rattle.formula.specs.Answers as formula
 use Rattle.formula.specs.declared.Read.the-variants as read
@@ -26,7 +27,8 @@ use Rattle.text.proofs.Promised.{read-comes, outcome-printable}
 use Rattle.text.specs.Answers.Outcome.{model, refusal}
 use Rattle.sheet.specs.declared.Sheet.{Sheet}
 use Rattle.sheet.specs.Inside.{FrontsFit, FrontsJudged, fronts}
-use Rattle.sheet.specs.Answers.{refusedSheet, sheetOf, Judges, withNodes, askedOf, Asked, Asks, FormulaJudged}
+use Rattle.sheet.specs.Answers.{refusedSheet, sheetOf, ModelJudged, Judges, withNodes, askedOf, Asked, Asks, FormulaJudged}
+use Rattle.sheet.proofs.Meaning.{refused-keeps}
 use Rattle.sheet.proofs.Fronts.{front, found-there, judges-one, judged-refused, Standing, standing}
 
 -- the formula was refused
@@ -106,3 +108,20 @@ asks-one (refusal n) text before after after′ r r′ p q = (p .0 ∙ sym (q .0
 
 pub formula-judged-one : (text formula before after after′ : List ℕ) (r r′ : Sheet) → FormulaJudged text formula before after r → FormulaJudged text formula before after′ r′ → (r ≡ r′) × (after ≡ after′)
 formula-judged-one text = asks-one (textOutcome text)
+
+-- the text of an accepted formula, asked of a model that was read, is the model with its nodes judged
+pub asked-formula : (text asked before after : List ℕ) (r : Sheet) (m : Model) (f : Formula) → textOutcome text ≡ model m → formula.Accepted f → asked ≡ textOf f
+    → FormulaJudged text asked before after r → ModelJudged (withNodes m (nodesOf f)) before after r
+asked-formula text asked before after r m f e a t j =
+    let q : Asked m asked before after r = subst (λ (o : Outcome). Asks o asked before after r) e j in
+    let s : formula.Spells asked f = record { named = a .named; spelt = t; short = (let l = ap length t in omega (arith, l, a .short)) } in
+    let o = outcome-once asked mostNodeNumbers (q .read) (formula.Outcome.formula f) (q .comes) (formula.Reads.reads (omega arith) f s (a .few) refl) in
+    subst (λ (x : formula.Outcome). Judges (askedOf m x) before after r) o (q .judged)
+
+-- a refusal, of whatever, leaves the verdict space
+asks-keep : (o : Outcome) (formula before after : List ℕ) (r : Sheet) → Asks o formula before after r → (r .number ≡ 0 → ⊥) → after ≡ before
+asks-keep (model m) formula before after r p h = refused-keeps (askedOf m (p .read)) before after r (p .judged) h
+asks-keep (refusal n) formula before after r p h = p .1
+
+pub formula-keeps : (text formula before after : List ℕ) (r : Sheet) → FormulaJudged text formula before after r → (r .number ≡ 0 → ⊥) → after ≡ before
+formula-keeps text = asks-keep (textOutcome text)

@@ -71,11 +71,11 @@ module _ (m : Model) (before after : List ℕ) (r : Sheet) (p : ModelJudged m be
   none-refused : numberDue m before ≡ 0
   none-refused = sym (model-number m before after r p) ∙ z
 
-  sheet-shown : r ≡ sheetOf (m .states) (nodeCount (m .nodes)) (judged.Verdicts (verdict (modelVerdict m)))
+  pub sheet-shown : r ≡ sheetOf (m .states) (nodeCount (m .nodes)) (judged.Verdicts (verdict (modelVerdict m)))
   unfolding judgedAs
   sheet-shown = p .sheet ∙ ap (sheetOf (m .states) (nodeCount (m .nodes))) (p .judging .answer ∙ ap (λ (n : ℕ). judgedAs n (modelVerdict m)) none-refused)
 
-  output-shown : output r after ≡ whole (rowsOf m) (modelVerdict m)
+  pub output-shown : output r after ≡ whole (rowsOf m) (modelVerdict m)
   unfolding output whole
   output-shown =
       let S : ℕ = m .states in
@@ -93,7 +93,7 @@ pub answer-shown : (text : List ℕ) (m : Model) (before after : List ℕ) (r : 
 answer-shown text m before after r e j z = output-shown m before after r (subst (λ (o : Outcome). Judges o before after r) e j) z
 
 -- of any other text it is the number alone, and the verdict space stays
-refused-keeps : (o : Outcome) (before after : List ℕ) (r : Sheet) → Judges o before after r → (r .number ≡ 0 → ⊥) → after ≡ before
+pub refused-keeps : (o : Outcome) (before after : List ℕ) (r : Sheet) → Judges o before after r → (r .number ≡ 0 → ⊥) → after ≡ before
 refused-keeps (refusal n) before after r p h = p .1
 refused-keeps (model m) before after r p h =
     judging-keeps m before after (p .answer) (p .judging) (λ z. h (ap (λ (x : Sheet). x .number) (p .sheet) ∙ sym (number-of _ _ (p .answer)) ∙ z))

@@ -6,7 +6,7 @@ use mathlib.Core.Bool.{Bool, true, false, cond}
 use native.Mathlib.Omega.{arith}
 use lib.ListN.{length, length-append}
 use lib.Dec.{ltb}
-use borrow.Author.Tests.{lt-ltb}
+use borrow.Author.Tests.{lt-ltb, le-ltb}
 use Rattle.lists.specs.Entries.{at}
 use Rattle.lists.specs.Rows.{tab}
 use Rattle.lists.proofs.Rows.{tab-at}
@@ -43,3 +43,16 @@ numeral-short (suc k) n = go (ltb n 10) (numeral-short k (n / 10))
 
 pub decimal-short : (n : ℕ) → length (decimal n) ≤ 5
 decimal-short n = numeral-short 5 n
+
+-- a digit alone, and one more behind a number
+pub decimal-digit : (d : ℕ) → d < 10 → decimal d ≡ (48 + d) ∷ []
+unfolding numeral
+decimal-digit d h = simp (lt-ltb d 10 h, digit-at d h)
+
+pub decimal-grown : (a d : ℕ) → 0 < a → d < 10 → a * 10 + d ≤ 65535 → decimal (a * 10 + d) ≡ decimal a ++ ((48 + d) ∷ [])
+unfolding numeral
+decimal-grown a d p h b =
+    let m = a * 10 + d in
+    let q : m / 10 ≡ a = omega arith in
+    let r : m % 10 ≡ d = omega arith in
+    simp (le-ltb m 10 (omega arith), q, r, digit-at d h) (ap (λ (l : List ℕ). l ++ ((48 + d) ∷ [])) (numeral-more 3 a (omega arith)))

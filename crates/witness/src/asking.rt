@@ -1,7 +1,11 @@
-// The question put to a model: its text is judged, and the rows are those of the node's own two parts.
+// The question put to a model: its text is judged, by its own nodes or by a formula's, and the rows are those of the two parts of the
+// node that is asked about.
+use crate::table;
 use crate::telling;
-use answer::MOST_LINE;
-use libc::STDOUT_FILENO;
+use crate::words;
+use crate::words::Number;
+use crate::words::Wanted;
+use sheet::Sheet;
 use text::Read;
 use values::limits::MOST_LABELS;
 use values::limits::MOST_NODE_NUMBERS;
@@ -10,9 +14,6 @@ use values::limits::MOST_STATES;
 use values::limits::MOST_TRANSITION_NUMBERS;
 use values::limits::MOST_TRANSITIONS;
 use values::limits::MOST_VERDICTS;
-
-// The kind of an exists-until.
-const EXISTS_UNTIL: u16 = 5;
 
 // The row of a node; where the verdict space has none, an empty list, which First refuses.
 fn row(states: usize, verdicts: &[u8], node: usize) -> &[u8] {
@@ -43,38 +44,8 @@ fn transitions_read(transitions: &[u16], count: usize) -> &[u16] {
     &transitions[..end]
 }
 
-// The three numbers of a node that there is.
-fn ask(
-    states: usize,
-    transitions: &[u16],
-    kind: u16,
-    left: u16,
-    right: u16,
-    verdicts: &[u8],
-    start: usize,
-    level: u8,
-    most: usize,
-) {
-    if kind != EXISTS_UNTIL {
-        io::write_all(
-            STDOUT_FILENO,
-            b"no question: this node is no exists-until\n",
-        );
-        return;
-    }
-    telling::list(
-        states,
-        transitions,
-        row(states, verdicts, left as usize),
-        row(states, verdicts, right as usize),
-        level,
-        start,
-        most,
-    );
-}
-
-// The model that was judged: its text is read once more, for the transitions and the nodes.
-fn ask_node(text: &[u8], verdicts: &[u8], node: usize, start: usize, level: u8, most: usize) {
+// The model that was judged: its text is read once more, for the transitions and the nodes, in whose place a formula's come.
+fn ask(text: &[u8], word: &[u8], about: Number, verdicts: &[u8], wanted: Wanted) {
     let mut labels = [0u8; MOST_LABELS];
     let mut initial = [0u8; MOST_STATES];
     let mut transitions = [0u16; MOST_TRANSITION_NUMBERS];
@@ -94,35 +65,36 @@ fn ask_node(text: &[u8], verdicts: &[u8], node: usize, start: usize, level: u8, 
     else {
         return;
     };
-    if n <= node {
-        io::write_all(STDOUT_FILENO, b"no question: the model has no such node\n");
+    let parts = table::parts_asked(about, word, n, &mut nodes);
+    if !parts.there {
         return;
     }
-    if MOST_NODES <= node {
-        return;
-    }
-    let edges = transitions_read(&transitions, e);
-    ask(
+    telling::list(
         s,
-        edges,
-        nodes[3 * node],
-        nodes[3 * node + 1],
-        nodes[3 * node + 2],
-        verdicts,
-        start,
-        level,
-        most,
+        transitions_read(&transitions, e),
+        row(s, verdicts, parts.left),
+        row(s, verdicts, parts.right),
+        wanted.level,
+        wanted.start,
+        wanted.most,
     );
 }
 
-pub(crate) fn answer(text: &[u8], node: usize, start: usize, level: u8, most: usize) {
+fn judge(about: Number, text: &[u8], word: &[u8], verdicts: &mut [u8]) -> Sheet {
+    match about {
+        Number::Is(_) => sheet::judge_text(text, verdicts),
+        Number::None => sheet::judge_formula(text, word, verdicts),
+    }
+}
+
+// A word that is no number is a formula.
+pub(crate) fn answer(text: &[u8], word: &[u8], wanted: Wanted) {
+    let about = words::read(word);
     let mut verdicts = [0u8; MOST_VERDICTS];
-    let sheet = sheet::judge_text(text, &mut verdicts);
+    let sheet = judge(about, text, word, &mut verdicts);
     if sheet.number != 0 {
-        let mut line = [0u8; MOST_LINE];
-        let written = answer::write_number(sheet.number, &mut line);
-        telling::put(written, &line);
+        telling::refused(sheet.number);
         return;
     }
-    ask_node(text, &verdicts, node, start, level, most);
+    ask(text, word, about, &verdicts, wanted);
 }

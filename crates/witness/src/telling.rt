@@ -1,4 +1,5 @@
 // Lines written out as they come.
+use answer::MOST_LINE;
 use answer::MOST_PATH_LINE;
 use answer::Written;
 use libc::STDOUT_FILENO;
@@ -7,13 +8,20 @@ use listing::Told;
 use values::limits::MOST_STATES;
 
 // The bytes that a writer put at the front of a line.
-pub(crate) fn put(written: Written, line: &[u8]) {
+fn put(written: Written, line: &[u8]) {
     let Written::Bytes(n) = written else {
         return;
     };
     if n <= line.len() {
         io::write_all(STDOUT_FILENO, &line[..n]);
     }
+}
+
+// The number of a refusal.
+pub(crate) fn refused(number: u8) {
+    let mut line = [0u8; MOST_LINE];
+    let written = answer::write_number(number, &mut line);
+    put(written, &line);
 }
 
 // Path after path, as many as asked for, and how the listing ends.

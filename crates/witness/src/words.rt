@@ -1,29 +1,31 @@
-// The arguments: a node, a state, the level as a word, and at most how many paths.
+// The arguments: a node or a formula, a state, the level as a word, and at most how many paths.
+
+// What is wanted of the node or the formula, which is the first word.
+pub(crate) struct Wanted {
+    pub(crate) start: usize,
+    pub(crate) level: u8,
+    pub(crate) most: usize,
+}
 
 // What the arguments ask.
 pub(crate) enum Question {
-    Asked {
-        node: usize,
-        start: usize,
-        level: u8,
-        most: usize,
-    },
+    Asked(Wanted),
     Wrong,
 }
 
 // A word read as a number.
-enum Number {
+pub(crate) enum Number {
     Is(usize),
     None,
 }
 
-// No word that counts is longer.
+// No word behind the first that counts is longer.
 const LONGEST: usize = 8;
 
 const GREATEST: usize = 65535;
 
 // Decimal, up to 65535, no leading zeros, as in a model's text.
-fn read(word: &[u8]) -> Number {
+pub(crate) fn read(word: &[u8]) -> Number {
     let n = word.len();
     if n == 0 {
         return Number::None;
@@ -99,12 +101,9 @@ fn most_at(count: usize) -> Number {
     Number::None
 }
 
-// The words behind the program's own name.
+// The words behind the first.
 pub(crate) fn asked() -> Question {
     let Number::Is(most) = most_at(os::arg_count()) else {
-        return Question::Wrong;
-    };
-    let Number::Is(node) = number_at(1) else {
         return Question::Wrong;
     };
     let Number::Is(start) = number_at(2) else {
@@ -114,10 +113,5 @@ pub(crate) fn asked() -> Question {
     if level == 0 {
         return Question::Wrong;
     }
-    Question::Asked {
-        node,
-        start,
-        level,
-        most,
-    }
+    Question::Asked(Wanted { start, level, most })
 }

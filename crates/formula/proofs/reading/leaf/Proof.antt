@@ -7,7 +7,8 @@ use lib.ListN.{drop}
 use denote.Ref.{now}
 use Rattle.formula.proofs.Beginnings.{turned-off, turned-on}
 use Rattle.formula.proofs.OneReading.{none-leaf}
-use Rattle.formula.proofs.Founds.{there, found-true, found-atom, atom-found, atom-gone, no-atom}
+use Rattle.formula.proofs.Marks.{there}
+use Rattle.formula.proofs.Founds.{found-true, found-atom, atom-found, atom-gone, no-atom}
 use borrow.Author.Needs.{needs}
 use Rattle.formula.proofs.reading.leaf.Statement.{statement}
 use Rattle.formula.proofs.reading.leaf.Tie as tie

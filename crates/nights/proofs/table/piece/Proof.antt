@@ -1,15 +1,15 @@
--- `part` ends, and the part that it lends lies within the table.
+-- `piece` ends, and the piece that it lends lies within the row.
 use Prim.Native.Nat.{_-_, _≤_}
 use lib.ListN.{length}
 use borrow.Author.Needs.{needs}
-use Rattle.nights.proofs.table.part.Statement.{statement}
-use Rattle.nights.proofs.table.part.Tie as tie
+use Rattle.nights.proofs.table.piece.Statement.{statement}
+use Rattle.nights.proofs.table.piece.Tie as tie
 
 abbrev Inv-loop : tie.InvT-loop
-Inv-loop table k n at₀ i₀ at i = at ≤ length table
+Inv-loop row k mark n at₀ i₀ at i = at ≤ length row
 
 abbrev μ-loop : tie.MeasureT-loop
-μ-loop table k n at₀ i₀ at i = k - i
+μ-loop row k mark n at₀ i₀ at i = k - i
 
 loop-holds : tie.Need-loop-holds Inv-loop μ-loop
 loop-holds c = search needs
@@ -47,8 +47,8 @@ part-result-end c = search needs
 returns : tie.Need-returns Inv-loop μ-loop
 returns c = search needs
 
-pub part-spec : {M : Type 1} → statement M
-part-spec =
+pub piece-spec : {M : Type 1} → statement M
+piece-spec =
     tie.close
     (tie.spec
     Inv-loop

@@ -1,0 +1,78 @@
+# What is found in a formula's text, for the messages that cause.awk makes. Whether a text is a formula, the programs say.
+function plain(limit) { gsub(",", "", limit); return limit + 0 }
+
+# Reading goes on at `place` and stops at the first byte that no formula could have there; `wanted` is what could stand there.
+function takes(text, sign, i) {
+    for (i = 1; i <= length(sign); i++) {
+        wanted = substr(sign, i, 1)
+        if (substr(text, place, 1) != wanted) return 0
+        place++
+    }
+    return 1
+}
+function takes_atom(text, digit, digits) {
+    while ((digit = substr(text, place, 1)) ~ /^[0-9]$/) {
+        wanted = digits == "0" ? "no digit, as numbers have no leading zeros" : "no digit that makes it more than p" plain(most_atoms) - 1
+        if (digits == "0" || (digits digit) + 0 >= plain(most_atoms)) return 0
+        digits = digits digit
+        place++
+    }
+    wanted = "the number of an atom"
+    return digits != ""
+}
+# what stands before an operand: a prefix, or a bracket that opens, whose middle is kept
+function takes_opening(text, sign) {
+    sign = substr(text, place++, 1)
+    if (sign == "E" && substr(text, place, 1) == "X") {
+        place++
+        return takes(text, " ")
+    }
+    if (sign == "!") return 1
+    if (sign != "(" && !takes(text, "(")) {
+        if (sign == "E") wanted = "X or ("
+        return 0
+    }
+    open[++depth] = sign == "(" ? "&" : " U "
+    return 1
+}
+function is_formula(text) {
+    place = 1; depth = 0
+    for (;;) {
+        while (substr(text, place, 1) ~ /^[!(EA]$/) if (!takes_opening(text)) return 0
+        if (takes(text, "p")) { if (!takes_atom(text)) return 0 }
+        else if (!takes(text, "T")) { wanted = "a formula"; return 0 }
+        # what ends here may be the right operand of one bracket after another
+        for (; depth > 0 && open[depth] == ")"; depth--) if (!takes(text, ")")) return 0
+        wanted = "the end of the formula"
+        if (depth == 0) return place > length(text)
+        if (!takes(text, open[depth])) return 0
+        open[depth] = ")"
+    }
+}
+
+function named(byte) { return byte == " " ? "a blank" : byte ~ /^[!-~]$/ ? "'" byte "'" : "a byte that no formula has" }
+function fault_in(text, byte, hint) {
+    if (length(text) > plain(most_formula)) return "at most " most_formula " bytes, here " length(text)
+    if (text == "") return "the formula is empty"
+    if (is_formula(text)) return ""
+    if (wanted == " ") wanted = "a blank"
+    if (place > length(text)) return "the formula ends behind byte " length(text) "; due there: " wanted
+    byte = substr(text, place, 1)
+    if (byte ~ /^[aetux]$/) hint = "; A, E, T, U and X are capital letters"
+    if (byte == "P") hint = "; an atom has a small p"
+    if (byte == "&" && wanted ~ /^the end/) hint = "; an and has brackets around it"
+    return "byte " place " of the formula is " named(byte) "; due there: " wanted hint
+}
+
+# each node has one of these signs
+function nodes_in(text) { return gsub(/[Tp!&XU]/, "", text) }
+
+function atoms_named(atoms) { return atoms > 1 ? atoms " atoms, p0 to p" atoms - 1 : atoms == 1 ? "one atom, p0" : "no atom" }
+function atom_beyond(text, atoms, digits) {
+    while (match(text, /p[0-9]+/)) {
+        digits = substr(text, RSTART + 1, RLENGTH - 1)
+        if (digits + 0 >= atoms) return "the formula names p" digits ", and the model has " atoms_named(atoms)
+        text = substr(text, RSTART + RLENGTH)
+    }
+    return ""
+}

@@ -1,0 +1,127 @@
+# Formulas: how ./ask and ./witness take them, and what is said of those that are refused.
+# shellcheck shell=bash disable=SC2154,SC2034 # names that another of these files sets or reads
+takes() { # WORDS-OF-THE-PROGRAM ARGUMENTS, the model on standard input too
+    expected=$1
+    shift
+    call "$ask" "$@" <echoed >"$out"
+    status 0 && wrote $'answer=0\nwords='"$expected"$'\nmodel=T' && no_scratch
+}
+misasked() { # WORDS-EXPECTED ARGUMENTS; nothing comes on standard input, and nothing may be waited for
+    expected=$1
+    shift
+    pipe
+    timeout 20 "$@" <&7 >"$out" 2>"$err"
+    got=$?
+    exec 7>&-
+    status 2 && says "$expected" && wrote "" && no_scratch
+}
+refuses() { # NUMBER TEXT FORMULA WORDS
+    printf '%b#answer=%s\n' "$2" "$1" >refused
+    call "$ask" refused "$3" >"$out"
+    status 1 && says "refused with $1: " && says "$4" && wrote "answer=$1" && no_scratch
+}
+lists() { # WORDS-OF-THE-PROGRAM ARGUMENTS, the model on standard input too
+    expected=$1
+    shift
+    call "$witness" "$@" <listing >"$out"
+    status 0 && wrote "path=$expected"$'\nend' && no_scratch
+}
+own_nodes() { # the fault of a node that isn't asked isn't told
+    refuses 12 "${graph/node=1,0,0/node=1,7,0}" p9 "the formula names p9" && ! grep -F "line 10" "$err"
+}
+grammar_told() { refuses 20 "$graph" 'EX p0)' "byte 6 of the formula is ')'; due there: the end of the formula" && says "E(f U g)" && says "one blank"; }
+settings() { # a caller's own variables
+    printf '%b#answer=12\n' "${graph/node=1,0,0/node=1,1,0}" >refused
+    formula=p9 asked=p9 parts=parts call "$desk" refused >"$out"
+    status 1 && says "line 10, node=1,1,0 (node 0): 1 is no atom"
+}
+closed_model() { call "$ask" 'EX p0' <&- >"$out"; status 2 && says "closed" && wrote "" && no_scratch; }
+closed_beside() { call "$ask" echoed 'EX p0' <&- >"$out"; status 0 && no_scratch; }
+closed_answer() { call "$ask" echoed 'EX p0' >&-; status 3 && says "closed" && no_scratch; }
+full_answer() { call "$ask" echoed 'EX p0' >/dev/full; status 3 && says "can't be written" && no_scratch; }
+cut_short() { printf '#answer=0\nrow=T\n' >refused; call "$ask" refused T >"$out"; status 3 && says "isn't whole" && no_scratch; }
+no_question() { printf '#no question: %s\n' "a formula is due" >refused; call "$ask" refused T >"$out"; status 2 && says "a formula is due" && no_scratch; }
+explains() { call "$ask" --help >"$out"; status 0 && grep -q "4,096 bytes" "$out" && grep -q "256 states" "$out" && grep -qF "A(f U g)" "$out"; }
+
+if [ -e "$house/ask" ]; then
+    printf '#answer=0\nwords=%%\nmodel=T\n' >echoed
+    cp echoed ./-model
+    cp echoed 'EX p1'
+    cp echoed p2.model
+    printf '#path=%%\nend\n' >listing
+    cp listing 'E(p0 U p1)'
+    cp listing true
+    many=$(printf '%64s' '' | tr ' ' '!')
+    long=$(printf '%4096s' '' | tr ' ' '!')
+
+    try "help names the limits and the grammar, ./ask" explains
+    try "a file and a formula" takes '[EX p0][]' echoed 'EX p0'
+    try "--parts before" takes '[EX p0][parts]' --parts echoed 'EX p0'
+    try "--parts between" takes '[EX p0][parts]' echoed --parts 'EX p0'
+    try "--parts behind" takes '[EX p0][parts]' echoed 'EX p0' --parts
+    try "- and a formula" takes '[EX p0][]' - 'EX p0'
+    try "a formula alone" takes '[EX p0][]' 'EX p0'
+    try "a formula alone, its parts" takes '[!p0][parts]' --parts '!p0'
+    try "a formula, and a file that begins with -, behind --" takes '[EX p0][parts]' --parts -- -model 'EX p0'
+    try "-- between file and formula" takes '[EX p0][]' echoed -- 'EX p0'
+    try "a file with a formula as its name" takes '[p0][]' 'EX p1' p0
+    try "signs that shells and awk read go through as they are" takes "[*\\t\$x \"a\"][]" echoed "*\\t\$x \"a\""
+    try "an empty formula goes through" takes '[][]' echoed ''
+    try "a formula, and closed input for the model" closed_model
+    try "closed input beside a file" closed_beside
+    try "closed output, ./ask" closed_answer
+    try "a full device, ./ask" full_answer
+    try "an answer cut short" cut_short
+    try "an answer that it was no question" no_question
+    try "no word at all" misasked "a file and a formula are due" "$ask"
+    try "a file without a formula" misasked "'echoed' is a file, and what is asked of it isn't whole" "$ask" echoed
+    try "a file without a formula, with a formula's beginning" misasked "'p2.model' is a file" "$ask" p2.model
+    try "one word that is neither" misasked "'echo' is neither a file nor a formula" "$ask" echo
+    try "one word, an empty one" misasked "'' is neither a file nor a formula" "$ask" ''
+    try "a file that isn't there, and a formula" misasked "there is no file 'nowhere'" "$ask" nowhere 'EX p0'
+    try "a formula without quotes" misasked "put in quotes: 'EX p0'" "$ask" echoed EX p0
+    try "a formula without quotes, and no file" misasked "there is no file 'EX': the file comes first" "$ask" EX p0
+    try "a formula before its file" misasked "there is no file '!p0': the file comes first" "$ask" '!p0' echoed
+    try "an option that there isn't, ./ask" misasked "there is no option --part;" "$ask" --part echoed T
+    try "refusal 20, an empty formula" refuses 20 "$graph" '' "the formula is empty"
+    try "refusal 20, a bracket is missing" refuses 20 "$graph" 'E(p0 U p1' "the formula ends behind byte 9; due there: )"
+    try "refusal 20, two blanks" refuses 20 "$graph" 'EX  p0' "byte 4 of the formula is a blank; due there: a formula"
+    try "refusal 20, small letters" refuses 20 "$graph" 'ex p0' "byte 1 of the formula is 'e'; due there: a formula; A, E, T, U and X are capital"
+    try "refusal 20, a greater atom" refuses 20 "$graph" p32 "byte 3 of the formula is '2'; due there: no digit that makes it more than p31"
+    try "refusal 20, a leading zero" refuses 20 "$graph" '!p00' "byte 4 of the formula is '0'; due there: no digit, as numbers have no leading zeros"
+    try "refusal 20, a backslash" refuses 20 "$graph" '!\041' "byte 2 of the formula is '\\'"
+    try "refusal 20, a byte beyond ASCII" refuses 20 "$graph" 'é' "byte 1 of the formula is a byte that no formula has"
+    try "refusal 20, a long formula" refuses 20 "$graph" "${long}T" "at most 4,096 bytes, here 4097"
+    try "refusal 20 tells the grammar" grammar_told
+    try "refusal 10, of the model" refuses 10 "${graph/nodes=2/nodes=65}" "${many}T" "the model's own nodes: 1 to 64 nodes, here 65"
+    try "refusal 10, of the formula" refuses 10 "$graph" "${many}T" "a formula has at most 64 nodes, here 65"
+    try "refusal 12, of the formula" refuses 12 "$graph" 'E(p0 U (p1&p2))' "the formula names p1, and the model has one atom, p0"
+    try "refusal 12, of the formula, two atoms" refuses 12 'states=1\natoms=2\n' 'E(p1 U p10)' "the formula names p10, and the model has 2 atoms, p0 to p1"
+    try "refusal 12, of the formula, no atom" refuses 12 'states=1\natoms=0\n' p0 "the formula names p0, and the model has no atom"
+    try "refusal 12, and a node that isn't asked" own_nodes
+    try "refusal 7, ./ask" refuses 7 "${graph/edge=1,1/edge=1,2}" p0 "line 8, edge=1,2: states are 0 to 1"
+    try "a caller's variables aren't taken for a formula" settings
+
+    try "./witness, a file and a formula" lists '[E(T U p1)][0]' listing 'E(T U p1)' 0 true
+    try "./witness, a formula alone" lists '[E(T U p1)][0]' 'E(T U p1)' 0 true
+    try "./witness, a formula and a count" lists '[E(T U p1)][0]' 'E(T U p1)' 0 possible 5
+    try "./witness, a file, a formula and a count" lists '[E(T U p1)][0]' listing 'E(T U p1)' 0 true 5
+    try "./witness, a file with a formula as its name" lists '[E(T U p1)][0]' 'E(p0 U p1)' 'E(T U p1)' 0 true
+    try "./witness, a file with a formula as its name, and a node" lists '[7][0]' 'E(p0 U p1)' 7 0 true
+    try "./witness, a file with a level as its name" lists '[E(T U p1)][0]' true 'E(T U p1)' 0 true
+    try "./witness, - and a formula" lists '[E(T U p1)][0]' - 'E(T U p1)' 0 true
+    try "./witness, a word that is no formula, behind a file" lists '[x][0]' listing x 0 true
+    try "./witness, a file without a question" misasked "'listing' is a file, and what is asked of it isn't whole" "$witness" listing 0 true
+    try "./witness, a file without a question, and a count" misasked "'listing' is a file" "$witness" listing 0 true 5
+    try "./witness, a word that is neither" misasked "'x' is neither a file nor a formula" "$witness" x 0 true
+    try "./witness, a formula and a wrong level before a count" misasked "'treu' is no level" "$witness" 'E(T U p1)' 0 treu 5
+    try "./witness, a formula and a wrong level" misasked "'treu' is no level" "$witness" listing 'E(T U p1)' 0 treu
+    try "./witness, a formula and a wrong count" misasked "'true' is no count" "$witness" 'E(T U p1)' 0 true true
+    try "./witness, a formula and a wrong state" misasked "'true' is no state" "$witness" listing 'E(T U p1)' true true
+    try "./witness, a formula without quotes" misasked "a formula with blanks is put in quotes" "$witness" listing 'E(T' U 'p1)' 0 true
+    try "./witness, another formula" answered 2 "no question: this formula is no exists-until" "E(f U g), with nothing before it" '!E(T U p0)' 0 true
+    try "./witness, refusal 20" answered 1 answer=20 "due there: a formula" 'E(T U )' 0 true
+    try "./witness, refusal 10 of the formula" answered 1 answer=10 "a formula has at most 64 nodes, here 67" "E(T U ${many}T)" 0 true
+    try "./witness, refusal 12 of the formula" answered 1 answer=12 "the formula names p1, and the model has one atom, p0" 'E(p0 U p1)' 0 true
+    try "./witness, refusal 15 of a formula's state" answered 1 answer=15 "states are 0 to 1, here 9" 'E(T U p0)' 9 true
+fi
