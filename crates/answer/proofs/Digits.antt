@@ -7,11 +7,7 @@ use lib.ListN.{length, length-append}
 use borrow.Author.Tests.{lt-ltb, le-ltb}
 use Rattle.lists.specs.Entries.{at}
 use Rattle.values.specs.Signs.{digits, numeral, decimal}
-use Rattle.values.proofs.Decimals.{numeral-more}
-
-pub decimal-one : (n : ℕ) → n < 10 → decimal n ≡ at digits n ∷ []
-unfolding numeral
-decimal-one n h = simp (lt-ltb n 10 h)
+use Rattle.values.proofs.Decimals.{numeral-more, numeral-step}
 
 pub decimal-two : (n : ℕ) → 10 ≤ n → n < 100 → decimal n ≡ at digits (n / 10) ∷ at digits (n % 10) ∷ []
 unfolding numeral
@@ -22,10 +18,6 @@ unfolding numeral
 decimal-three n h k =
     let hundreds : n / 10 / 10 ≡ n / 100 = omega arith in
     simp (le-ltb n 10 (omega arith), le-ltb (n / 10) 10 (omega arith), hundreds, lt-ltb (n / 100) 10 (omega arith))
-
-numeral-step : (k n : ℕ) → 10 ≤ n → numeral (suc k) n ≡ numeral k (n / 10) ++ (at digits (n % 10) ∷ [])
-unfolding numeral
-numeral-step k n h = simp (le-ltb n 10 h)
 
 -- the hundreds, and two digits more
 pub decimal-more : (n : ℕ) → 1000 ≤ n → n ≤ 65535 → decimal n ≡ decimal (n / 100) ++ (at digits (n / 10 % 10) ∷ at digits (n % 10) ∷ [])

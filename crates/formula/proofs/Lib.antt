@@ -12,7 +12,6 @@ pub mod ReadLaws
 pub mod ReadOnce
 pub mod Standing
 pub mod Sorts
-pub mod Digits
 pub mod OneTree
 pub mod PrintingLaws
 pub mod Roots

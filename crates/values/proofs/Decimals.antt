@@ -44,15 +44,27 @@ numeral-short (suc k) n = go (ltb n 10) (numeral-short k (n / 10))
 pub decimal-short : (n : ℕ) → length (decimal n) ≤ 5
 decimal-short n = numeral-short 5 n
 
--- a digit alone, and one more behind a number
-pub decimal-digit : (d : ℕ) → d < 10 → decimal d ≡ (48 + d) ∷ []
+-- a digit alone, and the last digit behind the others
+pub decimal-one : (n : ℕ) → n < 10 → decimal n ≡ at digits n ∷ []
 unfolding numeral
-decimal-digit d h = simp (lt-ltb d 10 h, digit-at d h)
+decimal-one n h = simp (lt-ltb n 10 h)
+
+pub numeral-step : (k n : ℕ) → 10 ≤ n → numeral (suc k) n ≡ numeral k (n / 10) ++ (at digits (n % 10) ∷ [])
+unfolding numeral
+numeral-step k n h = simp (le-ltb n 10 h)
+
+pub decimal-step : (n : ℕ) → 10 ≤ n → n ≤ 65535 → decimal n ≡ decimal (n / 10) ++ (at digits (n % 10) ∷ [])
+decimal-step n h k = numeral-step 4 n h ∙ ap (λ (l : List ℕ). l ++ (at digits (n % 10) ∷ [])) (numeral-more 3 (n / 10) (omega arith))
+
+-- the same by the digits' bytes
+pub decimal-digit : (d : ℕ) → d < 10 → decimal d ≡ (48 + d) ∷ []
+decimal-digit d h = decimal-one d h ∙ ap (λ (x : ℕ). x ∷ []) (digit-at d h)
 
 pub decimal-grown : (a d : ℕ) → 0 < a → d < 10 → a * 10 + d ≤ 65535 → decimal (a * 10 + d) ≡ decimal a ++ ((48 + d) ∷ [])
-unfolding numeral
 decimal-grown a d p h b =
-    let m = a * 10 + d in
-    let q : m / 10 ≡ a = omega arith in
-    let r : m % 10 ≡ d = omega arith in
-    simp (le-ltb m 10 (omega arith), q, r, digit-at d h) (ap (λ (l : List ℕ). l ++ ((48 + d) ∷ [])) (numeral-more 3 a (omega arith)))
+    let q : (a * 10 + d) / 10 ≡ a = omega arith in
+    let r : (a * 10 + d) % 10 ≡ d = omega arith in
+    decimal-step (a * 10 + d) (omega arith) b ∙ rw (q, r, digit-at d h)
+
+pub decimal-size : (n : ℕ) → 10 ≤ n → n ≤ 65535 → length (decimal n) ≡ length (decimal (n / 10)) + 1
+decimal-size n h k = ap length (decimal-step n h k) ∙ length-append (decimal (n / 10)) (at digits (n % 10) ∷ [])

@@ -2,7 +2,8 @@
 use mathlib.Core.Path.{ap, sym}
 use native.Mathlib.Omega.{arith}
 use lib.ListN.{length}
-use Rattle.answer.proofs.Digits.{decimal-one, decimal-two, decimal-three, size-four, size-five}
+use Rattle.values.proofs.Decimals.{decimal-one}
+use Rattle.answer.proofs.Digits.{decimal-two, decimal-three, size-four, size-five}
 use Rattle.answer.proofs.put.decimal_size.Statement.{statement}
 use Rattle.answer.proofs.put.decimal_size.Tie as tie
 

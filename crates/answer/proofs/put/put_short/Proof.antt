@@ -3,7 +3,8 @@ use mathlib.Core.Path.{ap}
 use native.Mathlib.Omega.{arith}
 use lib.ListN.{length}
 use Rattle.lists.proofs.Placed.{put-then}
-use Rattle.answer.proofs.Digits.{decimal-one, decimal-two, decimal-three}
+use Rattle.values.proofs.Decimals.{decimal-one}
+use Rattle.answer.proofs.Digits.{decimal-two, decimal-three}
 use borrow.Author.Needs.{needs}
 use Rattle.answer.proofs.put.put_short.Statement.{statement}
 use Rattle.answer.proofs.put.put_short.Tie as tie

@@ -4,7 +4,7 @@ use Prim.Native.Nat.{ℕ, _<_, _/_}
 use native.Mathlib.Omega.{arith}
 use lib.ListN.{length}
 use Rattle.values.proofs.Decimals.{decimal-short}
-use Rattle.formula.proofs.Digits.{decimal-one, size-step}
+use Rattle.values.proofs.Decimals.{decimal-one, decimal-size}
 use borrow.Fn.Kinds.{In}
 use borrow.Fn.PlainCycle.{Measures, is, falls, and}
 use Rattle.formula.proofs.parts.digits.Reads as digits
@@ -39,7 +39,7 @@ digits-add-result : (t : ℕ) → digits-lts.Need-add-result (asks t) (digits-at
 digits-add-result t c = record { fits = omega (arith, c .digits .ensures, decimal-short (c .before .before .args .number / 10)) }
 
 digits-returns-2 : (t : ℕ) → digits-lts.Need-returns-2 (asks t) (digits-at t) digits.Post
-digits-returns-2 t c = omega (arith, c .digits .ensures, size-step (c .before .before .args .number) (c .before .if1 .left) (omega arith))
+digits-returns-2 t c = omega (arith, c .digits .ensures, decimal-size (c .before .before .args .number) (c .before .if1 .left) (omega arith))
 
 pub +digits-spec : {M : Type 1} → statement M
 +digits-spec =

@@ -4,7 +4,7 @@ use Prim.Native.Nat.{ℕ, _<_, _/_}
 use native.Mathlib.Omega.{arith}
 use lib.ListN.{length}
 use Rattle.lists.proofs.Placed.{put-then}
-use Rattle.formula.proofs.Digits.{decimal-one, decimal-step, size-step}
+use Rattle.values.proofs.Decimals.{decimal-one, decimal-step, decimal-size}
 use borrow.Author.Needs.{needs}
 use borrow.Fn.Kinds.{In}
 use borrow.Fn.PlainCycle.{Measures, is, falls, and}
@@ -58,7 +58,7 @@ put-decimal-put-decimal-requires t c κs =
     let pre = c .before .before .before .pre in
     let if1 = c .before .if1 in
     let less : args .number / 10 < t = omega (arith, pre .0, if1 .left) in
-    (less, omega (arith, pre .1, size-step (args .number) (if1 .left) (omega arith)))
+    (less, omega (arith, pre .1, decimal-size (args .number) (if1 .left) (omega arith)))
 
 put-decimal-put-digit-requires-2 : (t : ℕ) → put-decimal-lts.Need-put-digit-requires-2 (asks t) (put-decimal-at t) put-decimal.Post
 put-decimal-put-digit-requires-2 t c κs =
@@ -66,7 +66,7 @@ put-decimal-put-digit-requires-2 t c κs =
     let put-decimal = c .before .before .before .put-decimal in
     let args = c .before .before .before .before .before .before .before .args in
     let if1 = c .before .before .before .before .before .if1 in
-    (omega arith, omega (arith, pre .1, put-decimal .ensures .ends, put-decimal .kept, size-step (args .number) (if1 .left) (omega arith)))
+    (omega arith, omega (arith, pre .1, put-decimal .ensures .ends, put-decimal .kept, decimal-size (args .number) (if1 .left) (omega arith)))
 
 put-decimal-same-length-2 : (t : ℕ) → put-decimal-lts.Need-same-length-2 (asks t) (put-decimal-at t) put-decimal.Post
 put-decimal-same-length-2 t c = search needs
