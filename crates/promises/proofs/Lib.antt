@@ -8,3 +8,4 @@ pub mod Asking
 pub mod Text
 pub mod Paths
 pub mod Nights
+pub mod AskedNight

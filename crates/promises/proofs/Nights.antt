@@ -54,11 +54,11 @@ use Rattle.paths.proofs.Gathering as gathered
 use Rattle.paths.proofs.Listing as listing
 
 -- how many bytes a model's rows take
-abbrev size : Model → ℕ
+abbrev pub size : Model → ℕ
 size m = rowBegin (m .states) (nodeCount (m .nodes))
 
 -- a model that the smallest space takes is taken by every space with room for its rows
-taken : (m : Model) (before : List ℕ) → judgeRefusal m (size m) ≡ 0 → size m ≤ length before → numberDue m before ≡ 0
+pub taken : (m : Model) (before : List ℕ) → judgeRefusal m (size m) ≡ 0 → size m ≤ length before → numberDue m before ≡ 0
 taken m before z h = more-room m (length before) (size m) h (omega arith) ∙ z
 
 row-holds : (m : Model) (k : ℕ) (values : List ℕ) → judgeRefusal m (size m) ≡ 0 → k < nodeCount (m .nodes) → getD (rowsOf m) k [] ≡ values → Holds (Case.row m k values)
@@ -91,7 +91,7 @@ path-holds : (q : Question) (start : ℕ) (ps : List (List ℕ)) → refusalOf (
 path-holds q start ps z e space h = subst (Run q start space) e (computed-run q start space (roomy q start z space h))
 
 -- the model that the text of case 1 holds
-abbrev first : Model
+abbrev pub first : Model
 first = asModel 2 1 (1 ∷ 2 ∷ []) (1 ∷ 0 ∷ []) (0 ∷ 1 ∷ 1 ∷ 1 ∷ []) (1 ∷ 0 ∷ 0 ∷ 4 ∷ 0 ∷ 0 ∷ 2 ∷ 0 ∷ 0 ∷ [])
 
 first-night : Holds (Case.text input printed)

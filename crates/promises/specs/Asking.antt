@@ -6,6 +6,7 @@ use mathlib.Core.Logic.{_⊎_}
 use lib.ListN.{length, take}
 use Rattle.lists.specs.Rows.{fill}
 use Rattle.values.specs.Limits.{mostFormula, mostNodes, mostNodeNumbers}
+use Rattle.values.specs.Rows.{mostVerdicts}
 use Rattle.model.specs.Model.{Model}
 use Rattle.ctl.specs.Rows.{overInitial}
 use Rattle.formula.specs.Tree.{Formula, size, Named}
@@ -26,6 +27,7 @@ use Rattle.sheet.specs.Output.Place.{here}
 use Rattle.sheet.specs.declared.Sheet.{Sheet}
 use Rattle.promises.specs.One.{One}
 use Rattle.promises.specs.Formulas.{partRows}
+use Rattle.promises.specs.Nights.{bytesOf, joined, input}
 
 -- "The accepted texts are exactly the grammar's within those two limits": what is accepted is the text of a formula within them, with its size
 -- in the answer and its nodes in the front of the space;
@@ -116,3 +118,24 @@ AskedLines = Answering (λ m f r after.
     (lineAt (output r after) 0 ≡ here (line (answerLine 0)))
     × (lineAt (output r after) (r .nodes) ≡ here (line (rowLine (valueRow m f))))
     × (lineAt (output r after) (suc (r .nodes)) ≡ here (line (modelLine (overInitial (m .states) (m .initial) (valueRow m f))))))
+
+-- a question as it is typed: (EX p0&!p0)
+abbrev pub typed : List ℕ
+typed = 40 ∷ 69 ∷ 88 ∷ 32 ∷ 112 ∷ 48 ∷ 38 ∷ 33 ∷ 112 ∷ 48 ∷ 41 ∷ []
+
+-- the rows of its parts p0, EX p0, p0, !p0 and of itself, asked of the model that the text of case 1 holds, and the model's verdict
+abbrev pub answered : List ℕ
+answered =
+    joined
+    ((97 ∷ 110 ∷ 115 ∷ 119 ∷ 101 ∷ 114 ∷ 61 ∷ 48 ∷ 10 ∷ [])
+    ∷ (114 ∷ 111 ∷ 119 ∷ 61 ∷ 85 ∷ 84 ∷ 10 ∷ [])
+    ∷ (114 ∷ 111 ∷ 119 ∷ 61 ∷ 84 ∷ 84 ∷ 10 ∷ [])
+    ∷ (114 ∷ 111 ∷ 119 ∷ 61 ∷ 85 ∷ 84 ∷ 10 ∷ [])
+    ∷ (114 ∷ 111 ∷ 119 ∷ 61 ∷ 85 ∷ 70 ∷ 10 ∷ [])
+    ∷ (114 ∷ 111 ∷ 119 ∷ 61 ∷ 85 ∷ 70 ∷ 10 ∷ [])
+    ∷ (109 ∷ 111 ∷ 100 ∷ 101 ∷ 108 ∷ 61 ∷ 85 ∷ 10 ∷ [])
+    ∷ [])
+
+-- Asked of the text of case 1, in a space for the largest model, it is accepted and gets this answer.
+abbrev pub AskedNight : Type 0
+AskedNight = (before after : List ℕ) (r : Sheet) → mostVerdicts ≤ length before → FormulaJudged input typed before after r → bytesOf (output r after) ≡ answered
