@@ -6,7 +6,7 @@ use mathlib.Core.Bool.{Bool, true, false}
 use native.Mathlib.Omega.{arith}
 use lib.ListN.{length}
 use lib.Dec.{ltb, eqb}
-use borrow.Author.Tests.{eq-eqb, ne-eqb, lt-ltb, le-ltb, le-leb, ltb-true, ltb-false, eqb-true}
+use borrow.Author.Tests.{eq-eqb, ne-eqb, lt-ltb, le-leb, ltb-true, ltb-false, eqb-true}
 use Rattle.lists.specs.Entries.{at}
 use Rattle.values.proofs.Decimals.{cap, digit-at, decimal-digit, decimal-grown}
 use Rattle.values.specs.Signs.{decimal, digits, numeral}

@@ -13,7 +13,7 @@ use Rattle.formula.specs.Answers.{formula, refusal, Accepted, PartAt, Yi
 use Rattle.formula.specs.declared.Printed.the-variants.{Bytes, Refused}
 use Rattle.formula.specs.declared.parts.Part.{Part}
 use Rattle.formula.specs.declared.parts.Part.the-variants.{Of, None}
-use Rattle.formula.specs.Printing.{Found, PartFound, PartAccepted, PartYielded, Writable, Written}
+use Rattle.formula.specs.InsidePrinting.{Ended, PartFound, PartAccepted, PartYielded, Writable, Written}
 use Rattle.formula.proofs.Sizes.{size-some, nodes-length}
 use Rattle.formula.proofs.Standing.{stands-whole, part-stands, stands-part}
 use Rattle.formula.proofs.OneTree.{stands-one, part-one}
@@ -33,7 +33,7 @@ yields-some {nodes} {k} {a} {b} p = record {
 pub found-none : {nodes : List ℕ} {k : ℕ} {r : Part} → PartFound nodes k r → r ≡ None → PartYielded nodes k None
 found-none {nodes} {k} p e = yields-none (λ f y. p .none e f (y .2 .0) (y .0 .named) (part-stands nodes f k (y .2 .0) (y .2 .1)))
 
-pub found-long : {nodes : List ℕ} {k first bytes : ℕ} → Found nodes k first bytes → mostFormula < bytes → PartYielded nodes k None
+pub found-long : {nodes : List ℕ} {k first bytes : ℕ} → Ended nodes k first bytes → mostFormula < bytes → PartYielded nodes k None
 found-long {nodes} {k} {first} x h = yields-none (λ f y.
     let same : f ≡ x .formula = stands-one nodes k (y .2 .0) first f (x .formula) (part-stands nodes f k (y .2 .0) (y .2 .1)) (x .stands) .0 in
     omega (arith, y .0 .short, x .long, ap (λ (g : Formula). length (textOf g)) same))

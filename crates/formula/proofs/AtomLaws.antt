@@ -2,20 +2,20 @@
 use Prim.Native.Nat.{ℕ, zero, suc, _+_, _-_, _*_, _≤_, _<_}
 use mathlib.Core.Path.{_≡_, refl, ap, sym, _∙_, subst}
 use mathlib.Core.List.{List, [], _∷_, _++_, append-assoc}
-use mathlib.Core.Bool.{Bool, true, false, cond, true≢false}
+use mathlib.Core.Bool.{Bool, true, false, cond}
 use native.Mathlib.Numerals.{add-one}
 use native.Mathlib.Omega.{arith}
-use lib.ListN.{length, drop, length-append, drop-of-length-le}
+use lib.ListN.{length, drop, drop-of-length-le}
 use lib.Seq.{drop-cons}
 use lib.Dec.{ltb, leb}
-use borrow.Author.Tests.{lt-ltb, le-ltb, ltb-true, ltb-false, leb-true}
+use borrow.Author.Tests.{ltb-true, ltb-false, leb-true}
 use Rattle.lists.specs.Entries.{at}
 use Rattle.lists.proofs.Tests.{and-parts}
 use Rattle.values.specs.Limits.{mostAtoms}
 use Rattle.values.specs.Signs.{decimal}
 use Rattle.formula.specs.declared.atoms.Atom.{Atom}
 use Rattle.formula.specs.declared.atoms.Atom.the-variants as atom
-use Rattle.formula.specs.Inside.{isDigit, Stops, endedAt, AtomFound, AtomAt}
+use Rattle.formula.specs.Inside.{isDigit, Stops, endedAt, AtomAt}
 use Rattle.values.proofs.Decimals.{decimal-digit, decimal-grown}
 use Rattle.formula.proofs.Numbers.{Digits, said, said-append, said-more, digit-is, one-more, Says, decimal-says, cut-once, GoesOn, goes-on}
 

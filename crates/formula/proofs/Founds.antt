@@ -14,7 +14,7 @@ use Rattle.formula.specs.declared.atoms.Atom.{Atom}
 use Rattle.formula.specs.declared.atoms.Atom.the-variants as atom
 use Rattle.formula.specs.declared.reading.Parsed.{Parsed}
 use Rattle.formula.specs.declared.reading.Parsed.the-variants as parsed
-use Rattle.formula.specs.Tree.{Prefix, Pair, Formula, TRUE, ATOM, one, two, size, Named}
+use Rattle.formula.specs.Tree.{Prefix, Pair, Formula, TRUE, ATOM, one, two, size, AtomsBelow}
 use Rattle.formula.specs.Text.{sign, opening, middle, closing, textOf}
 use Rattle.formula.specs.Nodes.{prefixKind, pairKind, nodesFrom}
 use Rattle.formula.specs.Inside.{begins, AtomFound, AtomAt, Only, NoneOf, Any, Term, Leaf, NodePut, Found, Parses, Placed}
@@ -48,7 +48,7 @@ put-last before mid after n m xs node node′ h k e l =
 
 pub found-true : (s : List ℕ) (place n : ℕ) (before after : List ℕ) → There (84 ∷ []) s place (place + 1) → NodePut n (0 ∷ 0 ∷ 0 ∷ []) before after
     → Found s place n before after (place + 1) (n + 1)
-unfolding size textOf nodesFrom Named
+unfolding size textOf nodesFrom AtomsBelow
 found-true s place n before after t k = record {
   tree = TRUE;
   named = tt;
@@ -63,7 +63,7 @@ found-true s place n before after t k = record {
 
 pub found-atom : (s : List ℕ) (place n : ℕ) (before after : List ℕ) (a end : ℕ) → There (112 ∷ []) s place (place + 1) → AtomFound s (place + 1) a end → NodePut n (1 ∷ a ∷ 0 ∷ []) before after
     → Found s place n before after end (n + 1)
-unfolding size textOf nodesFrom Named
+unfolding size textOf nodesFrom AtomsBelow
 found-atom s place n before after a end t f k =
     let e : drop place s ≡ 112 ∷ (decimal a ++ drop end s) = t .text ∙ ap (λ (x : List ℕ). 112 ∷ x) (f .spelt) in
     record {
@@ -80,7 +80,7 @@ found-atom s place n before after a end t f k =
 
 pub found-one : (s : List ℕ) (place n : ℕ) (before mid after : List ℕ) (r : Sign) (end m : ℕ) → SignThere sign prefixKind s place r → Found s (place + r .size) n before mid end m
     → NodePut m (r .kind ∷ (m - 1) ∷ 0 ∷ []) mid after → Found s place n before after end (m + 1)
-unfolding size textOf nodesFrom Named
+unfolding size textOf nodesFrom AtomsBelow
 found-one s place n before mid after r end m t f k =
     let p = t .which in
     let e : drop place s ≡ sign p ++ drop (place + r .size) s = t .there .text in
@@ -108,7 +108,7 @@ put-two before mid late after n m k xs ys node node′ g h o p e l =
 pub found-two : (s : List ℕ) (place n : ℕ) (before mid late after : List ℕ) (r : Sign) (behind m size₂ end k : ℕ) → (t : SignThere opening pairKind s place r)
     → Found s (place + r .size) n before mid behind m → There (middle (t .which)) s behind (behind + size₂) → Found s (behind + size₂) m mid late end k
     → There closing s end (end + 1) → NodePut k (r .kind ∷ (m - 1) ∷ (k - 1) ∷ []) late after → Found s place n before after (end + 1) (k + 1)
-unfolding size textOf nodesFrom Named
+unfolding size textOf nodesFrom AtomsBelow
 found-two s place n before mid late after r behind m size₂ end k t f u g z p =
     let q = t .which in
     let e : drop place s ≡ opening q ++ drop (place + r .size) s = t .there .text in

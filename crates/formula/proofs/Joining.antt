@@ -9,7 +9,7 @@ use Rattle.lists.proofs.Placed.{put-then}
 use Rattle.formula.specs.Tree.{Formula}
 use Rattle.formula.specs.Text.{closing, textOf}
 use Rattle.formula.specs.declared.parts.Node.{Node}
-use Rattle.formula.specs.Printing.{Sort, sortOf, takes, front, inner, NodeAt, MiddleFits, Writable, Written}
+use Rattle.formula.specs.InsidePrinting.{Sort, sortOf, takes, front, inner, NodeAt, MiddleFits, Writable, Written}
 use Rattle.formula.proofs.Sizes.{length-joined}
 use Rattle.formula.proofs.Standing.{stands-whole}
 use Rattle.formula.proofs.Roots.{PairRoot, pair-root}

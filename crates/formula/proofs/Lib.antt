@@ -19,3 +19,4 @@ pub mod PartLaws
 pub mod Writing
 pub mod Joining
 pub mod Accepting
+pub mod EachPart

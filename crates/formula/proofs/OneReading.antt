@@ -1,18 +1,17 @@
 -- A text begins with one formula at most: part by part, and for the text of every formula.
-use Prim.Native.Nat.{ℕ, _<_, _≤_}
+use Prim.Native.Nat.{ℕ, _<_}
 use mathlib.Core.Path.{_≡_, refl, ap, sym, _∙_, subst}
 use mathlib.Core.List.{List, [], _∷_, _++_, append-nil}
-use mathlib.Core.Bool.{Bool, true, false, true≢false}
+use mathlib.Core.Bool.{true, false, true≢false}
 use native.Mathlib.Omega.{arith}
-use lib.ListN.{length}
 use Rattle.values.specs.Limits.{mostAtoms}
 use Rattle.values.specs.Signs.{decimal}
-use Rattle.formula.specs.Tree.{Prefix, Pair, Formula, TRUE, ATOM, one, two, Named}
+use Rattle.formula.specs.Tree.{Prefix, Pair, Formula, TRUE, ATOM, one, two, Named, AtomsBelow}
 use Rattle.formula.specs.Text.{sign, opening, middle, closing, textOf}
 use Rattle.formula.specs.Inside.{begins, Stops, Begins, Only, NoneOf, Any, Term, Leaf}
-use Rattle.formula.proofs.Numbers.{said, Says, decimal-says, cut-once}
+use Rattle.formula.proofs.Numbers.{said, decimal-says, cut-once}
 use Rattle.formula.proofs.Beginnings.{begins-own}
-use Rattle.formula.proofs.Shapes.{OneOf, one-of, TwoOf, two-of, true-of, AtomOf, atom-of, one-behind, two-behind, middle-stops, cancel}
+use Rattle.formula.proofs.Shapes.{one-of, TwoOf, two-of, true-of, atom-of, one-behind, two-behind, middle-stops, cancel}
 
 pub only-true : (r : List ℕ) → Only (84 ∷ r) TRUE r
 only-true r g t b = true-of r g t b
@@ -102,7 +101,7 @@ none-any u x n (two q f g) t k b = n (two q f g) t tt b
 
 -- the text of a formula begins with that formula alone, whatever stands behind it but a digit
 pub only-text : (f : Formula) (r : List ℕ) → Named f → Stops r → Only (textOf f ++ r) f r
-unfolding textOf Named
+unfolding textOf AtomsBelow
 only-text TRUE r n q = only-true r
 only-text (ATOM a) r n q = only-atom a r n q
 only-text (one p f) r n q = subst (λ (x : List ℕ). Only x (one p f) r) (sym (one-behind p f r)) (only-one p (textOf f ++ r) f r (only-text f r n q))

@@ -6,7 +6,7 @@ use native.Mathlib.Omega.{arith}
 use Rattle.lists.specs.Entries.{at}
 use Rattle.formula.specs.Tree.{Formula, TRUE, ATOM, one, two, size}
 use Rattle.formula.specs.Answers.{PartAt}
-use Rattle.formula.specs.Printing.{Sort, truth, atom, unknown, prefix, pair, sortOf, Triple, Stands}
+use Rattle.formula.specs.InsidePrinting.{Sort, truth, atom, nothing, prefix, pair, sortOf, Triple, Stands}
 use Rattle.formula.proofs.Sizes.{size-some}
 use Rattle.formula.proofs.Standing.{stands-whole, part-stands}
 use Rattle.formula.proofs.Sorts.{sortIn, stands-sort}
@@ -17,7 +17,7 @@ grown truth a f g = TRUE
 grown atom a f g = ATOM a
 grown (prefix p) a f g = one p f
 grown (pair q) a f g = two q f g
-grown unknown a f g = TRUE
+grown nothing a f g = TRUE
 
 unfoldable told : ℕ → List ℕ → ℕ → Formula
 told zero nodes k = TRUE

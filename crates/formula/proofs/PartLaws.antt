@@ -6,20 +6,20 @@ use native.Mathlib.Omega.{arith}
 use lib.ListN.{length}
 use Rattle.values.specs.Limits.{mostAtoms, mostNodes}
 use Rattle.values.specs.Signs.{decimal}
-use Rattle.formula.specs.Tree.{Formula, TRUE, ATOM, one, two, size, Named}
+use Rattle.formula.specs.Tree.{Formula, TRUE, ATOM, one, two, size, Named, AtomsBelow}
 use Rattle.formula.specs.Text.{textOf}
 use Rattle.formula.specs.declared.parts.Node.{Node}
 use Rattle.formula.specs.declared.parts.Part.the-variants.{Of, None}
-use Rattle.formula.specs.Printing.{sortOf, takes, signs, NodeAt, Stands, Inside, Found, PartFound, LeafFound, PrefixAsked, PrefixFound}
+use Rattle.formula.specs.InsidePrinting.{sortOf, takes, signs, NodeAt, Stands, Inside, Ended, PartFound, LeafFound, PrefixAsked, PrefixFound}
 use Rattle.formula.proofs.Sizes.{length-prefixed, length-joined, text-short}
 use Rattle.formula.proofs.Standing.{stands-whole}
 use Rattle.formula.proofs.Sorts.{sortIn, takes-few, one-operand, two-operands}
 use Rattle.formula.proofs.OneTree.{stands-one}
 use Rattle.formula.proofs.Roots.{node-sort, LeafRoot, is-truth, is-atom, leaf-root, prefix-root, PairRoot, pair-root}
 
-pub is-found : {nodes : List ℕ} {k a b : ℕ} → Found nodes k a b → PartFound nodes k (Of a b)
+pub is-found : {nodes : List ℕ} {k a b : ℕ} → Ended nodes k a b → PartFound nodes k (Of a b)
 is-found {nodes} {k} {a} {b} f = record {
-  found = λ first bytes e. let x : a ≡ first = cc in let y : b ≡ bytes = cc in subst₂ (Found nodes k) x y f;
+  found = λ first bytes e. let x : a ≡ first = cc in let y : b ≡ bytes = cc in subst₂ (Ended nodes k) x y f;
   none = λ e. absurd (let z : _≡_ {A = ℕ} 0 1 = cc in omega arith);
 }
 
@@ -27,10 +27,10 @@ pub is-none : {nodes : List ℕ} {k : ℕ} → ((f : Formula) (first : ℕ) → 
 is-none h = record { found = λ first bytes e. absurd (let z : _≡_ {A = ℕ} 0 1 = cc in omega arith); none = λ e. h }
 
 -- how long its text can be, and that it begins no later than it ends
-pub found-short : {nodes : List ℕ} {k first bytes : ℕ} → Inside nodes k → Found nodes k first bytes → bytes ≤ 6 * mostNodes
+pub found-short : {nodes : List ℕ} {k first bytes : ℕ} → Inside nodes k → Ended nodes k first bytes → bytes ≤ 6 * mostNodes
 found-short {nodes} {k} {first} inside f = omega (arith, f .long, text-short (f .formula), stands-whole nodes (f .formula) k first (f .stands), inside .there, inside .few)
 
-pub found-begins : {nodes : List ℕ} {k first bytes : ℕ} → Found nodes k first bytes → first ≤ k + 1
+pub found-begins : {nodes : List ℕ} {k first bytes : ℕ} → Ended nodes k first bytes → first ≤ k + 1
 found-begins {nodes} {k} {first} f = omega (arith, stands-whole nodes (f .formula) k first (f .stands))
 
 -- ---- no operand
@@ -47,7 +47,7 @@ module _ (node : Node) (k : ℕ) where
       go f (is-atom w a c) = h c
 
   pub leaf-high : takes (sortOf (node .kind)) ≡ 0 → node .kind ≡ 1 → mostAtoms ≤ node .left → LeafFound node k None
-  unfolding Named
+  unfolding AtomsBelow
   leaf-high e one-kind h = leaf-none e go
     where
       go : (f : Formula) → Named f → LeafRoot node f → ⊥
@@ -62,7 +62,7 @@ module _ (node : Node) (k : ℕ) where
       go f (is-atom w a c) = other a
 
   pub leaf-atom : {bytes : ℕ} → node .kind ≡ 1 → node .right ≡ 0 → node .left < mostAtoms → bytes ≡ length (decimal (node .left)) + 1 → LeafFound node k (Of k bytes)
-  unfolding Stands Named textOf
+  unfolding Stands AtomsBelow textOf
   leaf-atom one-kind none low e = record {
     tells = λ nodes t. is-found record {
       formula = ATOM (node .left);
@@ -73,7 +73,7 @@ module _ (node : Node) (k : ℕ) where
   }
 
   pub leaf-true : node .kind ≡ 0 → node .left ≡ 0 → node .right ≡ 0 → LeafFound node k (Of k 1)
-  unfolding Stands Named textOf
+  unfolding Stands AtomsBelow textOf
   leaf-true a b c = record {
     tells = λ nodes t. is-found record {
       formula = TRUE;
@@ -85,8 +85,8 @@ module _ (node : Node) (k : ℕ) where
 
 -- ---- some operand: no formula ends at the first node, or where none ends at the node before
 
-pub unknown-none : (nodes : List ℕ) (k : ℕ) (node : Node) → takes (sortOf (node .kind)) ≡ 3 → NodeAt nodes k node → PartFound nodes k None
-unknown-none nodes k node e t = is-none (λ f first named s. omega (arith, e, ap takes (node-sort nodes k first node f t s), takes-few f))
+pub nothing-none : (nodes : List ℕ) (k : ℕ) (node : Node) → takes (sortOf (node .kind)) ≡ 3 → NodeAt nodes k node → PartFound nodes k None
+nothing-none nodes k node e t = is-none (λ f first named s. omega (arith, e, ap takes (node-sort nodes k first node f t s), takes-few f))
 
 pub first-none : (nodes : List ℕ) (k : ℕ) (node : Node) → (takes (sortOf (node .kind)) ≡ 0 → ⊥) → k ≡ 0 → NodeAt nodes k node → PartFound nodes k None
 unfolding Stands sortIn
@@ -99,7 +99,7 @@ first-none nodes k node h e t = is-none go
     go (two q f g) first named s = omega (arith, s .0)
 
 pub before-none : (nodes : List ℕ) (k : ℕ) (node : Node) → (takes (sortOf (node .kind)) ≡ 0 → ⊥) → ((f : Formula) (first : ℕ) → Named f → Stands nodes (k - 1) first f → ⊥) → NodeAt nodes k node → PartFound nodes k None
-unfolding Stands sortIn Named
+unfolding Stands sortIn AtomsBelow
 before-none nodes k node h none t = is-none go
   where
     go : (f : Formula) (first : ℕ) → Named f → Stands nodes k first f → ⊥
@@ -118,7 +118,7 @@ module _ (node : Node) (k first bytes : ℕ) (asked : PrefixAsked node k bytes) 
   prefix-left h = record { tells = λ nodes t found. is-none (λ f first′ named s. h (prefix-root nodes k first′ node f (asked .takes-one) t s .left)) }
 
   pub prefix-of : {size : ℕ} → node .right ≡ 0 → node .left ≡ k - 1 → size ≡ signs (sortOf (node .kind)) → PrefixFound node k first bytes (Of first (bytes + size))
-  unfolding Stands Named
+  unfolding Stands AtomsBelow
   prefix-of none before e =
       let p = one-operand (node .kind) (asked .takes-one) in
       record {
@@ -138,7 +138,7 @@ pub record PairCase (nodes : List ℕ) (k : ℕ) (node : Node) (first bytes : �
   pub two-taken : takes (sortOf (node .kind)) ≡ 2
   pub here : NodeAt nodes k node
   pub later : 0 < k
-  pub found : Found nodes (k - 1) first bytes
+  pub found : Ended nodes (k - 1) first bytes
 
 module _ {nodes : List ℕ} {k first bytes : ℕ} {node : Node} (p : PairCase nodes k node first bytes) where
   root : (f : Formula) (begin : ℕ) → Stands nodes k begin f → PairRoot nodes k begin node f
@@ -155,7 +155,7 @@ module _ {nodes : List ℕ} {k first bytes : ℕ} {node : Node} (p : PairCase no
       h (stands-one nodes (k - 1) (node .left + 1) first (r .other-side) (p .found .formula) (r .other-stands) (p .found .stands) .1))
 
   pub pair-none : ((f : Formula) (begin : ℕ) → Named f → Stands nodes (node .left) begin f → ⊥) → PartFound nodes k None
-  unfolding Named
+  unfolding AtomsBelow
   pair-none none =
       is-none
       (λ f begin named s.
@@ -168,14 +168,14 @@ module _ {nodes : List ℕ} {k first bytes : ℕ} {node : Node} (p : PairCase no
       let less : node .left < k = omega (arith, found-begins (p .found), p .later) in
       (less, record { there = omega (arith, p .inside .there); few = p .inside .few })
 
-  pub sides-short : {begin left : ℕ} → node .left + 1 ≡ first → Found nodes (node .left) begin left → left + bytes ≤ 12 * mostNodes
+  pub sides-short : {begin left : ℕ} → node .left + 1 ≡ first → Ended nodes (node .left) begin left → left + bytes ≤ 12 * mostNodes
   sides-short e one-found =
       let last : Inside nodes (k - 1) = record { there = omega (arith, p .inside .there); few = p .inside .few } in
       omega (arith, found-short last (p .found), found-short (left-inside e .1) one-found)
 
-  pub pair-of : {begin left size : ℕ} → node .right ≡ k - 1 → node .left + 1 ≡ first → Found nodes (node .left) begin left
+  pub pair-of : {begin left size : ℕ} → node .right ≡ k - 1 → node .left + 1 ≡ first → Ended nodes (node .left) begin left
       → size ≡ signs (sortOf (node .kind)) → PartFound nodes k (Of begin (left + bytes + size))
-  unfolding Stands Named
+  unfolding Stands AtomsBelow
   pair-of last next one-found e =
       let q = two-operands (node .kind) (p .two-taken) in
       let t = p .here in

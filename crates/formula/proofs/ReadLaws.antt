@@ -1,22 +1,20 @@
 -- What each way out of `read_formula` shows, and that the answer is settled.
 use Prim.Native.Nat.{ℕ, _+_, _*_, _<_, _≤_}
-use mathlib.Core.Path.{_≡_, refl, ap, sym, _∙_, subst}
-use mathlib.Core.List.{List, [], _∷_, _++_, append-nil}
+use mathlib.Core.Path.{_≡_, refl, ap, sym, _∙_}
+use mathlib.Core.List.{List, [], _++_, append-nil}
 use native.Mathlib.Omega.{arith}
 use lib.ListN.{length, take, drop, length-drop, drop-of-length-le}
 use lib.Seq.{take-at}
-use Rattle.lists.specs.Rows.{Put, fill}
+use Rattle.lists.specs.Rows.{fill}
 use Rattle.lists.proofs.Placed.{put-front}
 use Rattle.values.specs.Limits.{mostFormula, mostNodes, mostNodeNumbers}
-use Rattle.formula.specs.declared.Read.{Read}
 use Rattle.formula.specs.declared.Read.the-variants as read
-use Rattle.formula.specs.Tree.{Formula, size, Named}
+use Rattle.formula.specs.Tree.{Formula, size}
 use Rattle.formula.specs.Text.{textOf}
-use Rattle.formula.specs.Nodes.{nodesOf, nodesFrom}
-use Rattle.formula.specs.Answers.{Outcome, formula, refusal, Spells, Reads, tight, unspelt, many, reads, readOf, spaceAfter, FormulaRead, Accepted}
-use Rattle.formula.specs.Inside.{Begins, Only, NoneOf, Any, Found}
+use Rattle.formula.specs.Nodes.{nodesOf}
+use Rattle.formula.specs.Answers.{formula, refusal, Spells, tight, unspelt, many, reads, FormulaRead}
+use Rattle.formula.specs.Inside.{Begins, NoneOf, Any, Found}
 use Rattle.formula.proofs.Sizes.{nodes-length}
-use Rattle.formula.proofs.OneReading.{one-text}
 
 -- a text that spells a formula begins with it, and nothing stands behind
 pub spelt-begins : (text : List ℕ) (f : Formula) → Spells text f → Begins (drop 0 text) f []

@@ -1,11 +1,11 @@
 -- Reading is settled: one text spells one formula at most, so any two permitted answers coincide; and which texts are accepted.
-use Prim.Native.Nat.{ℕ, _<_, _≤_}
+use Prim.Native.Nat.{ℕ, _≤_}
 use mathlib.Core.Path.{_≡_, refl, ap, sym, subst, _∙_}
 use mathlib.Core.List.{List}
 use native.Mathlib.Omega.{arith}
 use lib.ListN.{length}
 use Rattle.lists.specs.Rows.{fill}
-use Rattle.values.specs.Limits.{mostNodes, mostNodeNumbers}
+use Rattle.values.specs.Limits.{mostNodeNumbers}
 use Rattle.formula.specs.declared.Read.{Read}
 use Rattle.formula.specs.declared.Read.the-variants as read
 use Rattle.formula.specs.Tree.{Formula, size}

@@ -5,7 +5,7 @@ use mathlib.Core.List.{List}
 use native.Mathlib.Omega.{arith}
 use Rattle.formula.specs.Tree.{Prefix, Pair, Formula, TRUE, ATOM, one, two}
 use Rattle.formula.specs.declared.parts.Node.{Node}
-use Rattle.formula.specs.Printing.{prefix, pair, sortOf, takes, NodeAt, Stands}
+use Rattle.formula.specs.InsidePrinting.{prefix, pair, sortOf, takes, NodeAt, Stands}
 use Rattle.formula.proofs.Sorts.{sortIn, stands-sort}
 
 pub node-sort : (nodes : List ℕ) (k first : ℕ) (node : Node) (f : Formula) → NodeAt nodes k node → Stands nodes k first f → sortOf (node .kind) ≡ sortIn f

@@ -1,16 +1,14 @@
 -- What a text begins with tells the formula's shape: its first signs are no other shape's.
-use Prim.Native.Nat.{ℕ, zero, suc, _+_, _<_, _≤_}
-use mathlib.Core.Path.{_≡_, refl, ap, sym, _∙_, subst}
+use Prim.Native.Nat.{ℕ, _+_, _<_}
+use mathlib.Core.Path.{_≡_, refl, ap, sym, _∙_}
 use mathlib.Core.List.{List, [], _∷_, _++_, append-assoc}
-use mathlib.Core.Bool.{Bool, true, false, cond, true≢false}
+use mathlib.Core.Bool.{cond}
 use native.Mathlib.Omega.{arith}
-use lib.ListN.{length}
 use Rattle.values.specs.Limits.{mostAtoms}
 use Rattle.values.specs.Signs.{decimal}
-use Rattle.formula.specs.Tree.{Prefix, NOT, EX, Pair, AND, EU, AU, Formula, TRUE, ATOM, one, two, Named}
+use Rattle.formula.specs.Tree.{Prefix, NOT, EX, Pair, AND, EU, AU, Formula, TRUE, ATOM, one, two, AtomsBelow}
 use Rattle.formula.specs.Text.{sign, opening, middle, closing, textOf}
 use Rattle.formula.specs.Inside.{begins, Stops, Begins}
-use Rattle.formula.proofs.Operators.{each-prefix, each-pair}
 
 data Shape : Type 0 where
   isTrue isAtom isNothing : Shape
@@ -78,7 +76,7 @@ pub record OneOf (p : Prefix) (v : List ℕ) (g : Formula) (t : List ℕ) : Type
   pub begins : Begins v part t
 
 one-from : (p p′ : Prefix) (v : List ℕ) (f : Formula) (t : List ℕ) → p′ ≡ p → Begins (sign p ++ v) (one p′ f) t → OneOf p v (one p′ f) t
-unfolding Named
+unfolding AtomsBelow
 one-from p p′ v f t e b = record {
   part = f;
   is = ap (λ (x : Prefix). one x f) e;
@@ -109,7 +107,7 @@ middle-stops EU w = refl
 middle-stops AU w = refl
 
 two-from : (q q′ : Pair) (v : List ℕ) (f g : Formula) (t : List ℕ) → q′ ≡ q → Begins (opening q ++ v) (two q′ f g) t → TwoOf q v (two q′ f g) t
-unfolding Named
+unfolding AtomsBelow
 two-from q q′ v f g t e b =
     let rest : Pair → List ℕ = λ (x : Pair). textOf f ++ (middle x ++ (textOf g ++ (closing ++ t))) in
     record {
@@ -147,7 +145,7 @@ pub record AtomOf (v : List ℕ) (g : Formula) (t : List ℕ) : Type 0 where
   pub stops : Stops t
 
 pub atom-of : (v : List ℕ) (g : Formula) (t : List ℕ) → Begins (112 ∷ v) g t → AtomOf v g t
-unfolding lookedAt begins textOf Named
+unfolding lookedAt begins textOf AtomsBelow
 atom-of v TRUE t b = let e : isAtom ≡ isTrue = same-shape _ _ TRUE t refl (b .spelt) in absurd (let z : _≡_ {A = ℕ} 0 1 = cc in omega arith)
 atom-of v (ATOM a) t b = record { number = a; is = refl; named = b .named; spelt = (let e : 112 ∷ v ≡ 112 ∷ (decimal a ++ t) = b .spelt in cc); stops = b .stops }
 atom-of v (one p f) t b = let e : isAtom ≡ isOne p = same-shape _ _ (one p f) t refl (b .spelt) in absurd (let z : _≡_ {A = ℕ} 0 1 = cc in omega arith)

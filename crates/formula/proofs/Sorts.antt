@@ -7,7 +7,7 @@ use Rattle.lists.specs.Entries.{at}
 use Rattle.formula.specs.Tree.{Prefix, NOT, EX, Pair, AND, EU, AU, Formula, TRUE, ATOM, one, two}
 use Rattle.formula.specs.Text.{middle}
 use Rattle.formula.specs.Nodes.{prefixKind, pairKind}
-use Rattle.formula.specs.Printing.{Sort, truth, atom, unknown, prefix, pair, sortOf, takes, inner, signs, Stands, Signed}
+use Rattle.formula.specs.InsidePrinting.{Sort, truth, atom, nothing, prefix, pair, sortOf, takes, inner, signs, Stands, Signed}
 
 pub sort-prefix : (p : Prefix) → sortOf (prefixKind p) ≡ prefix p
 unfolding sortOf
@@ -26,7 +26,7 @@ NumberOf truth k = k ≡ 0
 NumberOf atom k = k ≡ 1
 NumberOf (prefix p) k = k ≡ prefixKind p
 NumberOf (pair q) k = k ≡ pairKind q
-NumberOf unknown k = 6 < k
+NumberOf nothing k = 6 < k
 
 number-of : (k : ℕ) → NumberOf (sortOf k) k
 unfolding sortOf
@@ -48,7 +48,7 @@ no-operand k e h = go (sortOf k) (number-of k) e
     go atom n e = absurd (h n)
     go (prefix p) n e = absurd (omega arith)
     go (pair q) n e = absurd (omega arith)
-    go unknown n e = absurd (omega arith)
+    go nothing n e = absurd (omega arith)
 
 pub other-leaf : (k : ℕ) → takes (sortOf k) ≡ 0 → (k ≡ 0 → ⊥) → k ≡ 1
 other-leaf k e h = go (sortOf k) (number-of k) e
@@ -58,7 +58,7 @@ other-leaf k e h = go (sortOf k) (number-of k) e
     go atom n e = n
     go (prefix p) n e = absurd (omega arith)
     go (pair q) n e = absurd (omega arith)
-    go unknown n e = absurd (omega arith)
+    go nothing n e = absurd (omega arith)
 
 pub record OnePrefix (k : ℕ) : Type 0 where
   pub sign : Prefix
@@ -73,7 +73,7 @@ one-operand k e = go (sortOf k) refl (number-of k) e
     go atom q n e = absurd (omega arith)
     go (prefix p) q n e = record { sign = p; sort = q; number = n }
     go (pair p) q n e = absurd (omega arith)
-    go unknown q n e = absurd (omega arith)
+    go nothing q n e = absurd (omega arith)
 
 pub record OnePair (k : ℕ) : Type 0 where
   pub join : Pair
@@ -88,7 +88,7 @@ two-operands k e = go (sortOf k) refl (number-of k) e
     go atom q n e = absurd (omega arith)
     go (prefix p) q n e = absurd (omega arith)
     go (pair p) q n e = record { join = p; sort = q; number = n }
-    go unknown q n e = absurd (omega arith)
+    go nothing q n e = absurd (omega arith)
 
 -- the sort of a formula's last node
 unfoldable pub sortIn : Formula → Sort
@@ -116,13 +116,13 @@ takes-most truth = omega arith
 takes-most atom = omega arith
 takes-most (prefix p) = omega arith
 takes-most (pair q) = omega arith
-takes-most unknown = omega arith
+takes-most nothing = omega arith
 
 -- what a table's last line is for: no kind, or the last of those that have signs
-pub no-kind : (k : ℕ) → (k ≡ 0 → ⊥) → (k ≡ 1 → ⊥) → (k ≡ 2 → ⊥) → (k ≡ 3 → ⊥) → (k ≡ 4 → ⊥) → (k ≡ 5 → ⊥) → (k ≡ 6 → ⊥) → sortOf k ≡ unknown
+pub no-kind : (k : ℕ) → (k ≡ 0 → ⊥) → (k ≡ 1 → ⊥) → (k ≡ 2 → ⊥) → (k ≡ 3 → ⊥) → (k ≡ 4 → ⊥) → (k ≡ 5 → ⊥) → (k ≡ 6 → ⊥) → sortOf k ≡ nothing
 no-kind k a b d e f g h = go (sortOf k) (number-of k)
   where
-    go : (s : Sort) → NumberOf s k → s ≡ unknown
+    go : (s : Sort) → NumberOf s k → s ≡ nothing
     go truth n = absurd (a n)
     go atom n = absurd (b n)
     go (prefix NOT) n = absurd (d n)
@@ -130,7 +130,7 @@ no-kind k a b d e f g h = go (sortOf k) (number-of k)
     go (pair AND) n = absurd (e n)
     go (pair EU) n = absurd (g n)
     go (pair AU) n = absurd (h n)
-    go unknown n = refl
+    go nothing n = refl
 
 pub last-signed : (k : ℕ) → Signed k → (k ≡ 2 → ⊥) → (k ≡ 3 → ⊥) → (k ≡ 4 → ⊥) → (k ≡ 5 → ⊥) → k ≡ 6
 last-signed k signed d e f g = go (sortOf k) (number-of k) (signed .some) (signed .known)
@@ -143,7 +143,7 @@ last-signed k signed d e f g = go (sortOf k) (number-of k) (signed .some) (signe
     go (pair AND) n x y = absurd (e n)
     go (pair EU) n x y = absurd (g n)
     go (pair AU) n x y = n
-    go unknown n x y = absurd (omega arith)
+    go nothing n x y = absurd (omega arith)
 
 pub later-pair : (k : ℕ) → takes (sortOf k) ≡ 2 → (k ≡ 3 → ⊥) → inner (sortOf k) ≡ middle AU
 later-pair k e h = go (sortOf k) (number-of k) e
@@ -155,7 +155,7 @@ later-pair k e h = go (sortOf k) (number-of k) e
     go (pair AND) n x = absurd (h n)
     go (pair EU) n x = refl
     go (pair AU) n x = refl
-    go unknown n x = absurd (omega arith)
+    go nothing n x = absurd (omega arith)
 
 -- what is left once none, three and one are ruled out
 pub two-left : {r : ℕ} (k : ℕ) → r ≡ takes (sortOf k) → (r ≡ 0 → ⊥) → (r ≡ 3 → ⊥) → (r ≡ 1 → ⊥) → takes (sortOf k) ≡ 2
@@ -172,4 +172,4 @@ signs-few k = go (sortOf k)
     go (pair AND) = omega arith
     go (pair EU) = omega arith
     go (pair AU) = omega arith
-    go unknown = omega arith
+    go nothing = omega arith

@@ -10,7 +10,7 @@ use Rattle.lists.specs.Entries.{at}
 use Rattle.formula.specs.Tree.{Formula, TRUE, ATOM, one, two, size}
 use Rattle.formula.specs.Nodes.{prefixKind, pairKind, nodesFrom, rootFrom}
 use Rattle.formula.specs.Answers.{PartAt}
-use Rattle.formula.specs.Printing.{Triple, Stands}
+use Rattle.formula.specs.InsidePrinting.{Triple, Stands}
 use Rattle.formula.proofs.Sizes.{size-some, nodes-length}
 
 -- ---- the last node of the first k + 1

@@ -10,7 +10,7 @@ use Rattle.lists.proofs.Placed.{put-then}
 use Rattle.formula.specs.Tree.{Formula, TRUE, ATOM, one, two}
 use Rattle.formula.specs.Text.{textOf}
 use Rattle.formula.specs.declared.parts.Node.{Node}
-use Rattle.formula.specs.Printing.{Sort, sortOf, takes, front, leafText, NodeAt, Stands, OpeningFits, LeafFits, Writable, Written}
+use Rattle.formula.specs.InsidePrinting.{Sort, sortOf, takes, front, leafText, NodeAt, Stands, OpeningFits, LeafFits, Writable, Written}
 use Rattle.formula.proofs.Sizes.{length-prefixed, length-joined}
 use Rattle.formula.proofs.Sorts.{sortIn, takes-few}
 use Rattle.formula.proofs.Roots.{node-sort, LeafRoot, is-truth, is-atom, leaf-root, PrefixRoot, prefix-root}

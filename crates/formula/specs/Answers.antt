@@ -93,3 +93,11 @@ pub record FormulaPrinted (IsOf : Formula → Type 0) (before after : List ℕ) 
   pub comes : Prints IsOf (length before) outcome
   pub answer : r ≡ printedOf outcome
   pub space : after ≡ spaceAfter textOf outcome before
+
+-- a formula was printed whose nodes these are, and no other formula has them
+pub record PrintedOf (IsOf : Formula → Type 0) (before after : List ℕ) (n : ℕ) : Type 0 where
+  pub tree : Formula
+  pub listed : IsOf tree
+  pub alone : (g : Formula) → IsOf g → g ≡ tree
+  pub count : n ≡ length (textOf tree)
+  pub filled : after ≡ fill (textOf tree) before

@@ -9,9 +9,9 @@ use lib.Dec.{eqb, ltb, leb}
 use Rattle.lists.specs.Rows.{Put}
 use Rattle.values.specs.Limits.{mostAtoms, mostFormula, mostNodes, mostNodeNumbers}
 use Rattle.values.specs.Signs.{decimal}
-use Rattle.formula.specs.Tree.{Prefix, Pair, Formula, TRUE, ATOM, one, two, size, Named}
-use Rattle.formula.specs.Text.{sign, opening, middle, textOf}
-use Rattle.formula.specs.Nodes.{prefixKind, pairKind, nodesFrom}
+use Rattle.formula.specs.Tree.{Pair, Formula, TRUE, ATOM, one, two, size, Named}
+use Rattle.formula.specs.Text.{middle, textOf}
+use Rattle.formula.specs.Nodes.{nodesFrom}
 use Rattle.formula.specs.declared.signs.Sign.{Sign}
 use Rattle.formula.specs.declared.atoms.Atom.{Atom}
 use Rattle.formula.specs.declared.atoms.Atom.the-variants as atom

@@ -4,4 +4,4 @@ pub mod Nodes
 pub mod Meaning
 pub mod Answers
 pub mod Inside
-pub mod Printing
+pub mod InsidePrinting

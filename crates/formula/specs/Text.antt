@@ -4,6 +4,14 @@ use mathlib.Core.List.{List, [], _∷_, _++_}
 use Rattle.values.specs.Signs.{decimal}
 use Rattle.formula.specs.Tree.{Prefix, NOT, EX, Pair, AND, EU, AU, Formula, TRUE, ATOM, one, two}
 
+-- T
+abbrev pub constant : List ℕ
+constant = 84 ∷ []
+
+-- p, before an atom's number
+abbrev pub letter : ℕ
+letter = 112
+
 -- ! or EX and a space
 abbrev pub sign : Prefix → List ℕ
 sign NOT = 33 ∷ []
@@ -27,7 +35,7 @@ closing = 41 ∷ []
 
 -- T, or p and the atom's number, or the parts with these signs
 unfoldable pub textOf : Formula → List ℕ
-textOf TRUE = 84 ∷ []
-textOf (ATOM a) = 112 ∷ decimal a
+textOf TRUE = constant
+textOf (ATOM a) = letter ∷ decimal a
 textOf (one p f) = sign p ++ textOf f
 textOf (two q f g) = opening q ++ (textOf f ++ (middle q ++ (textOf g ++ closing)))

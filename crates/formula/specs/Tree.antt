@@ -23,9 +23,13 @@ size (ATOM a) = 1
 size (one p f) = size f + 1
 size (two q f g) = size f + size g + 1
 
--- each atom is below the most
-unfoldable pub Named : Formula → Type 0
-Named TRUE = Unit {0}
-Named (ATOM a) = a < mostAtoms
-Named (one p f) = Named f
-Named (two q f g) = Named f × Named g
+-- each atom is below a number
+unfoldable pub AtomsBelow : ℕ → Formula → Type 0
+AtomsBelow n TRUE = Unit {0}
+AtomsBelow n (ATOM a) = a < n
+AtomsBelow n (one p f) = AtomsBelow n f
+AtomsBelow n (two q f g) = AtomsBelow n f × AtomsBelow n g
+
+-- below the most, as the grammar has it
+abbrev pub Named : Formula → Type 0
+Named f = AtomsBelow mostAtoms f

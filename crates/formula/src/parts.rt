@@ -6,7 +6,7 @@ ghost use mathlib.Core.Path.{_≡_};
 ghost use Prim.Native.Nat.{_+_, _*_, _<_, _≤_};
 ghost use lib.ListN.{length};
 ghost use Rattle.values.specs.Signs.{decimal};
-ghost use Rattle.formula.specs.Printing.{sortOf, takes, signs, NodeAt, Inside, PartFound, LeafFound, PrefixAsked, PrefixFound, PartYielded, Signed};
+ghost use Rattle.formula.specs.InsidePrinting.{sortOf, takes, signs, NodeAt, Inside, PartFound, LeafFound, PrefixAsked, PrefixFound, PartYielded, Signed};
 
 // A node's three numbers.
 pub(crate) struct Node {

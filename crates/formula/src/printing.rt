@@ -8,7 +8,7 @@ ghost use lib.ListN.{length};
 ghost use Rattle.lists.specs.Entries.{at};
 ghost use Rattle.lists.specs.Rows.{Put};
 ghost use Rattle.values.specs.Signs.{digits, decimal};
-ghost use Rattle.formula.specs.Printing.{sortOf, front, inner, leafText, OpeningFits, MiddleFits, LeafFits, Writable, Written};
+ghost use Rattle.formula.specs.InsidePrinting.{sortOf, front, inner, leafText, OpeningFits, MiddleFits, LeafFits, Writable, Written};
 
 fn put(sign: &[u8], text: &mut [u8], place: usize) -> usize
     requires { ⌜ place + length (now sign) ≤ length (now text) ⌝ }

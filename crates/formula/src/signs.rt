@@ -4,7 +4,7 @@ ghost use mathlib.Core.Bool.{true, false};
 ghost use Prim.Native.Nat.{_≤_};
 ghost use lib.ListN.{length, drop};
 ghost use Rattle.formula.specs.Tree.{Pair};
-ghost use Rattle.formula.specs.Text.{sign, opening, middle};
+ghost use Rattle.formula.specs.Text.{sign, opening};
 ghost use Rattle.formula.specs.Nodes.{prefixKind, pairKind};
 ghost use Rattle.formula.specs.Inside.{begins, SignAt, MiddleAt};
 

@@ -10,7 +10,7 @@
 //   r s      a formula's text read, and printed back; the same, the node space one short
 //   a to f   the same of the text that a code of layers stands for
 //   P S      a list of nodes printed; the same, the text space one short; K U a part of it; x y as many nots as there may be, one more
-//   h        a formula on a line and a model's text, judged with the model's room
+//   h        a formula on a line and a model's text, judged with the model's room; g i with line feeds up to the limit, one beyond it
 //   m        no case: the code of a model for the cases behind it to change, in place of the base
 use crate::asking;
 use crate::base;
@@ -33,7 +33,7 @@ use values::limits::MOST_TEXT;
 fn text(letter: u8, name: &[u8], text: &[u8], room: usize) {
     match letter {
         b't' => reading::asked(name, text, room),
-        b'h' => formulas::judged(name, text, room),
+        b'g' | b'h' | b'i' => formulas::judged(letter, name, text, room),
         b'u' => reading::padded(name, text, MOST_TEXT, NONE),
         b'v' => reading::padded(name, text, MOST_TEXT + 1, NONE),
         b'w' => reading::padded(name, text, MOST_TEXT + 1, NODES),

@@ -12,6 +12,7 @@ use crate::lines::PRINT_PART;
 use crate::lines::READ_FORMULA;
 use crate::lines::REST;
 use crate::lines::TEXT_SPACE;
+use crate::reading;
 use crate::spaces;
 use crate::spaces::PATTERN;
 use crate::spaces::PATTERN_NUMBER;
@@ -20,6 +21,7 @@ use formula::Printed;
 use formula::Read;
 use values::limits::MOST_FORMULA;
 use values::limits::MOST_NODE_NUMBERS;
+use values::limits::MOST_TEXT;
 use values::limits::MOST_VERDICTS;
 
 // What printing answered, and whether the text space stayed, or what is behind the text.
@@ -121,12 +123,28 @@ pub(crate) fn asked(letter: u8, name: &[u8], code: &[u8]) {
     }
 }
 
-// A formula on a line and a model's text behind it, judged with so much room.
-pub(crate) fn judged(name: &[u8], code: &[u8], room: usize) {
-    let formula = piece(code, 0, b'\n');
-    let at = spaces::least(formula.len() + 1, code.len());
+// A formula judged over a model's text with so much room.
+fn judge(name: &[u8], text: &[u8], formula: &[u8], room: usize) {
     let mut space = [PATTERN; MOST_VERDICTS];
     let lent = spaces::least(room, MOST_VERDICTS);
-    let sheet = sheet::judge_formula(&code[at..], formula, &mut space[..lent]);
+    let sheet = sheet::judge_formula(text, formula, &mut space[..lent]);
     judging::told(JUDGE_FORMULA, name, sheet, 0, &space);
+}
+
+// A formula on a line and a model's text behind it, judged; the text as it is, or with line feeds up to the limit or one beyond it.
+pub(crate) fn judged(letter: u8, name: &[u8], code: &[u8], room: usize) {
+    let formula = piece(code, 0, b'\n');
+    let at = spaces::least(formula.len() + 1, code.len());
+    let text = &code[at..];
+    if letter == b'h' {
+        judge(name, text, formula, room);
+        return;
+    }
+    let page = reading::page(text);
+    let size = if letter == b'g' {
+        MOST_TEXT
+    } else {
+        MOST_TEXT + 1
+    };
+    judge(name, spaces::bytes(&page, size), formula, room);
 }

@@ -135,7 +135,7 @@ pub(crate) fn asked(name: &[u8], text: &[u8], room: usize) {
 }
 
 // A text with line feeds behind it.
-fn page(text: &[u8]) -> [u8; MOST_TEXT + 1] {
+pub(crate) fn page(text: &[u8]) -> [u8; MOST_TEXT + 1] {
     let mut page = [b'\n'; MOST_TEXT + 1];
     let n = spaces::least(text.len(), MOST_TEXT + 1);
     let mut i: usize = 0;

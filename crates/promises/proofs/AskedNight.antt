@@ -40,7 +40,7 @@ abbrev tree : Formula
 tree = two AND (one EX (ATOM 0)) (one NOT (ATOM 0))
 
 accepted : Accepted tree
-unfolding trees.Named trees.size texts.textOf signs.numeral
+unfolding trees.AtomsBelow trees.size texts.textOf signs.numeral
 accepted = record { named = (omega arith, omega arith); short = omega arith; few = omega arith }
 
 -- the model that is judged

@@ -1,41 +1,43 @@
 -- Formulas as people write them: each statement from its crate's own law, and the answer's lines from the meaning of the formula's parts.
 use mathlib.Core.Path.{_≡_, refl, sym, ap, ap₂, subst, _∙_}
-use Prim.Native.Nat.{ℕ, zero, suc, _+_, _*_, _-_, _<_, _≤_, min}
+use Prim.Native.Nat.{ℕ, suc, _+_, _*_, _-_, _<_, _≤_, min}
 use mathlib.Core.List.{List, [], _∷_, _++_, map}
-use mathlib.Core.Bool.{Bool, true, false}
+use mathlib.Core.Bool.{true, false}
 use mathlib.Core.Logic.{_⊎_, inl, inr}
 use native.Mathlib.Omega.{arith}
-use lib.ListN.{length, take, drop, length-append}
+use lib.ListN.{length, take, drop, getD, length-append}
 use lib.Seq.{take-at}
-use Rattle.lists.specs.Rows.{fill, tab}
+use Rattle.lists.specs.Rows.{fill}
 use Rattle.values.specs.Limits.{mostFormula}
 use Rattle.lists.proofs.Rows.{tab-same}
 use Rattle.values.specs.Values.{neg}
 use Rattle.kripke.specs.Until.{next, until}
-use Rattle.model.specs.Model.{Model, nodeCount}
-use Rattle.ctl.specs.Rows.{overInitial, modelVerdict, rowsOf}
+use Rattle.model.specs.Model.{Model}
+use Rattle.ctl.specs.Rows.{overInitial}
 use Rattle.formula.specs.Tree.{AND, ATOM, AU, EU, EX, Formula, NOT, TRUE, one, two, size}
 use Rattle.formula.specs.Nodes.{nodesOf}
 use Rattle.formula.specs.Text.{textOf}
 use Rattle.formula.specs.Meaning.{value, valueRow}
 use Rattle.formula.specs.Answers as formula
-use Rattle.formula.proofs.Sizes.{nodes-length, size-some}
+use Rattle.formula.proofs.Sizes.{nodes-length}
 use Rattle.formula.specs.declared.Printed.the-variants as printed
+use Rattle.formula.proofs.EachPart.{yields-each}
 use Rattle.formula.proofs.OneReading.{one-text}
 use Rattle.formula.proofs.PrintingLaws.{prints-back, yields-one, yields-part-one, formula-printed-one, part-printed-one}
 use Rattle.formula.proofs.ReadOnce.{accepts-texts, reads-text, one-read, refused-comes}
-use Rattle.answer.specs.Lines.{answerLine, rowLine, modelLine}
+use Rattle.answer.specs.Lines.{rowLine, modelLine}
 use Rattle.answer.specs.Answers.{Due}
 use Rattle.answer.specs.Answers.Due.{line}
 use Rattle.sheet.specs.Answers.{withNodes, ModelJudged}
-use Rattle.sheet.specs.Output.{Place, output, whole, lineAt}
+use Rattle.sheet.specs.Output.{output, whole, lineAt}
 use Rattle.sheet.specs.Output.Place.{here}
 use Rattle.sheet.specs.declared.Sheet.{Sheet}
+use Rattle.sheet.proofs.AskedNumbers.{never-asked, atom-missing}
 use Rattle.sheet.proofs.Asking.{asked-formula, formula-keeps, formula-judged-one}
 use Rattle.sheet.proofs.Meaning.{output-shown, sheet-shown, refusal-shown}
 use Rattle.promises.specs.Formulas.{partRows}
-use Rattle.promises.specs.Asking.{AcceptedIsText, TextIsAccepted, OneReadingEach, RefusedBecause, ReadingRefused, PrintedBack, PrintedOf, PrintedOnce, PrintingRefused, OneFormulaPrinted, OnePartPrinted, OneFormulaRead, OneFormulaSheet, FormulaSheetRefusal, FormulaSheetMeaning, AskedLines}
-use Rattle.promises.proofs.Formulas.{partsMeaning, meaningOfFormula}
+use Rattle.promises.specs.Asking.{AcceptedIsText, TextIsAccepted, OneReadingEach, RefusedBecause, ReadingRefused, PrintedBack, PrintedOnce, PrintingRefused, OneFormulaPrinted, OnePartPrinted, OneFormulaRead, OneFormulaSheet, FormulaSheetRefusal, FormulaSheetNumbers, AtomMissing, EachPartPrints, FormulaSheetMeaning, AskedLines}
+use Rattle.promises.proofs.Formulas.{partsMeaning, partMeaning, meaningOfFormula}
 use Rattle.promises.proofs.Parts.{parts-count, parts-last}
 
 pub acceptedIsText : AcceptedIsText
@@ -68,7 +70,7 @@ printedBack text nodes nodes′ n before after r p h q =
     (w .0 ∙ ap (λ (x : List ℕ). printed.Bytes (length x)) (sym (a .spelt)), w .1 ∙ ap (λ (x : List ℕ). fill x before) (sym (a .spelt)))
 
 printed-of : (IsOf : Formula → Type 0) → ((f g : Formula) → IsOf f → IsOf g → f ≡ g) → (before after : List ℕ) (n : ℕ) (o : formula.Outcome) → formula.Prints IsOf (length before) o
-    → printed.Bytes n ≡ formula.printedOf o → after ≡ formula.spaceAfter textOf o before → PrintedOf IsOf before after n
+    → printed.Bytes n ≡ formula.printedOf o → after ≡ formula.spaceAfter textOf o before → formula.PrintedOf IsOf before after n
 printed-of IsOf single before after n o (formula.Prints.tight h e) a s = let q : printed.Bytes n ≡ printed.Refused 24 = a ∙ ap formula.printedOf e in absurd (let z : _≡_ {A = ℕ} 0 1 = cc in omega arith)
 printed-of IsOf single before after n o (formula.Prints.unyielded h k e) a s = let q : printed.Bytes n ≡ printed.Refused 20 = a ∙ ap formula.printedOf e in absurd (let z : _≡_ {A = ℕ} 0 1 = cc in omega arith)
 printed-of IsOf single before after n o (formula.Prints.prints h f y e) a s =
@@ -105,6 +107,12 @@ oneFormulaSheet text formula before after after′ r r′ p q = formula-judged-o
 pub formulaSheetRefusal : FormulaSheetRefusal
 formulaSheetRefusal text formula before after r p h = (formula-keeps text formula before after r p h, refusal-shown r after h)
 
+pub formulaSheetNumbers : FormulaSheetNumbers
+formulaSheetNumbers = never-asked
+
+pub atomMissing : AtomMissing
+atomMissing = atom-missing
+
 -- a formula's meaning doesn't depend on the model's own nodes
 row-same : (m : Model) (ns : List ℕ) (f : Formula) → ((s : ℕ) → value (withNodes m ns) f s ≡ value m f s) → valueRow (withNodes m ns) f ≡ valueRow m f
 row-same m ns f h = tab-same (value (withNodes m ns) f) (value m f) (m .states) (λ s l. h s)
@@ -128,6 +136,14 @@ parts-same m ns TRUE = ap (λ (x : List ℕ). x ∷ []) (rows-same m ns TRUE)
 parts-same m ns (ATOM a) = ap (λ (x : List ℕ). x ∷ []) (rows-same m ns (ATOM a))
 parts-same m ns (one p f) = cc (parts-same m ns f, rows-same m ns (one p f))
 parts-same m ns (two q f g) = cc (parts-same m ns f, parts-same m ns g, rows-same m ns (two q f g))
+
+pub eachPartPrints : EachPartPrints
+eachPartPrints m f k a h =
+    let n = withNodes m (nodesOf f) in
+    let y = yields-each f k a h in
+    let g = y .0 in
+    let there = y .1 .2 in
+    (g, y .1, ap (λ (x : List (List ℕ)). getD x k []) (sym (partsMeaning n f refl ∙ parts-same m (nodesOf f) f)) ∙ partMeaning n k (there .0) g (there .1) ∙ rows-same m (nodesOf f) g)
 
 -- the model that is judged where f is asked
 asked : (text before after : List ℕ) (r : Sheet) (m : Model) (f : Formula) → ModelJudged (withNodes m (nodesOf f)) before after r → r .number ≡ 0

@@ -3,17 +3,17 @@ use mathlib.Core.Path.{_≡_}
 use Prim.Native.Nat.{ℕ, suc, _*_, _<_, _≤_}
 use mathlib.Core.List.{List, [], _∷_}
 use mathlib.Core.Logic.{_⊎_}
-use lib.ListN.{length, take}
+use lib.ListN.{length, take, getD}
 use Rattle.lists.specs.Rows.{fill}
 use Rattle.values.specs.Limits.{mostFormula, mostNodes, mostNodeNumbers}
 use Rattle.values.specs.Rows.{mostVerdicts}
 use Rattle.model.specs.Model.{Model}
 use Rattle.ctl.specs.Rows.{overInitial}
-use Rattle.formula.specs.Tree.{Formula, size, Named}
+use Rattle.formula.specs.Tree.{Formula, size, AtomsBelow, Named}
 use Rattle.formula.specs.Text.{textOf}
 use Rattle.formula.specs.Nodes.{nodesOf}
 use Rattle.formula.specs.Meaning.{valueRow}
-use Rattle.formula.specs.Answers.{Spells, Accepted, FormulaRead, ReadAs, Yields, YieldsPart, FormulaPrinted}
+use Rattle.formula.specs.Answers.{Spells, Accepted, FormulaRead, ReadAs, Yields, YieldsPart, FormulaPrinted, PrintedOf}
 use Rattle.formula.specs.declared.Read.{Read}
 use Rattle.formula.specs.declared.Read.the-variants as read
 use Rattle.formula.specs.declared.Printed.{Printed}
@@ -61,14 +61,6 @@ PrintedBack =
     (text nodes nodes′ : List ℕ) (n : ℕ) (before after : List ℕ) (r : Printed) → FormulaRead text nodes nodes′ (read.Nodes n) → mostFormula ≤ length before
     → FormulaPrinted (Yields (take (3 * n) nodes′)) before after r → (r ≡ printed.Bytes (length text)) × (after ≡ fill text before)
 
--- a formula was printed whose nodes these are, and no other formula has them
-pub record PrintedOf (IsOf : Formula → Type 0) (before after : List ℕ) (n : ℕ) : Type 0 where
-  pub tree : Formula
-  pub listed : IsOf tree
-  pub alone : (g : Formula) → IsOf g → g ≡ tree
-  pub count : n ≡ length (textOf tree)
-  pub filled : after ≡ fill (textOf tree) before
-
 -- What prints is the list of exactly one accepted formula, or its part,
 abbrev pub PrintedOnce : Type 0
 PrintedOnce =
@@ -101,6 +93,22 @@ abbrev pub FormulaSheetRefusal : Type 0
 FormulaSheetRefusal =
     (text formula before after : List ℕ) (r : Sheet) → FormulaJudged text formula before after r → (r .number ≡ 0 → ⊥)
     → (after ≡ before) × (output r after ≡ line (answerLine (r .number)) ∷ [])
+
+-- In a space for the largest model a formula is never refused with 3, 4, 11 or 13,
+abbrev pub FormulaSheetNumbers : Type 0
+FormulaSheetNumbers =
+    (text formula before after : List ℕ) (r : Sheet) → mostVerdicts ≤ length before → FormulaJudged text formula before after r
+    → (r .number ≡ 3 → ⊥) × (r .number ≡ 4 → ⊥) × (r .number ≡ 11 → ⊥) × (r .number ≡ 13 → ⊥)
+
+-- and with 12 only where it names an atom that the model hasn't.
+abbrev pub AtomMissing : Type 0
+AtomMissing =
+    (text before after : List ℕ) (r : Sheet) (m : Model) (f : Formula) → textOutcome text ≡ Outcome.model m → Accepted f
+    → FormulaJudged text (textOf f) before after r → r .number ≡ 12 → AtomsBelow (m .atoms) f → ⊥
+
+-- Each node of an accepted formula's list is the whole of an accepted formula, which `print_part` prints, and the row of that node is its meaning.
+abbrev pub EachPartPrints : Type 0
+EachPartPrints = (m : Model) (f : Formula) (k : ℕ) → Accepted f → k < size f → (g : Formula) × YieldsPart (nodesOf f) k g × (getD (partRows m f) k [] ≡ valueRow m g)
 
 -- what is written where the formula f, typed, is asked of the model m that a text holds, and is not refused
 abbrev pub Answering : (Model → Formula → Sheet → List ℕ → Type 0) → Type 0

@@ -1,13 +1,11 @@
 -- A formula asked of a model that was read: its nodes fit into their table, what was judged there is the model with them, and `judge_formula`
 -- permits one answer.
-use Prim.Native.Nat.{ℕ, _+_, _*_, _/_, _≤_}
+use Prim.Native.Nat.{ℕ, _*_}
 use mathlib.Core.Path.{_≡_, refl, ap, sym, subst, _∙_}
 use mathlib.Core.List.{List, [], _∷_}
 use mathlib.Core.Bool.{false}
 use native.Mathlib.Omega.{arith}
-use lib.ListN.{length, take, drop, length-append}
-use lib.Seq.{take-at}
-use Rattle.lists.specs.Rows.{fill}
+use lib.ListN.{length, take}
 use Rattle.values.specs.Limits.{mostNodeNumbers}
 use Rattle.model.specs.Model.{Model, asModel, nodeCount}
 use Rattle.ctl.specs.Answers.{Judging}

@@ -4,3 +4,4 @@ pub mod Output
 pub mod RowLines
 pub mod Meaning
 pub mod Numbers
+pub mod AskedNumbers

@@ -35,12 +35,12 @@ spared : ℕ → Bool
 spared n = not (eqb n 3 || (eqb n 4 || eqb n 13))
 
 -- what a text comes to is no other refusal than those of reading
-outcome-numbers : (text : List ℕ) (n : ℕ) → textOutcome text ≡ refusal n → List·Memᴰ n refusals
+pub outcome-numbers : (text : List ℕ) (n : ℕ) → textOutcome text ≡ refusal n → List·Memᴰ n refusals
 outcome-numbers text n e =
     let q : outcome largest text ≡ refusal n = outcome-here largest text largest-long ∙ e in
     only-these text largest (tablesDue (outcome largest text) largest) n (record { number = sym (ap numberDue q); counts = sym (ap countsDue q); lent = refl })
 
-labels-fit : (m : Model) → Printable m → Labels m
+pub labels-fit : (m : Model) → Printable m → Labels m
 labels-fit m g = record { size = g .labels .size; small = λ i h. all-at (λ (v : ℕ). v ≤ top) (m .labels) (g .labels .each) i (omega (arith, g .labels .size)) }
 
 judged-spared : (m : Model) (room : ℕ) → Printable m → mostVerdicts ≤ room → spared (judgeRefusal m room) ≡ true

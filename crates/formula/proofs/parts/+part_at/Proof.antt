@@ -2,9 +2,9 @@
 use mathlib.Core.Path.{sym, _∙_}
 use Prim.Native.Nat.{ℕ, _-_, _<_}
 use native.Mathlib.Omega.{arith}
-use Rattle.formula.specs.Printing.{Inside}
+use Rattle.formula.specs.InsidePrinting.{Inside}
 use Rattle.formula.proofs.Sorts.{two-left, signs-few}
-use Rattle.formula.proofs.PartLaws.{found-short, unknown-none, first-none, before-none, PairCase, pair-right, pair-apart, pair-none, left-inside, sides-short, pair-of}
+use Rattle.formula.proofs.PartLaws.{found-short, nothing-none, first-none, before-none, PairCase, pair-right, pair-apart, pair-none, left-inside, sides-short, pair-of}
 use borrow.Author.Needs.{needs}
 use borrow.Fn.Kinds.{In}
 use borrow.Fn.PlainCycle.{Measures, is, falls, and}
@@ -82,7 +82,7 @@ part-at-returns-2 : (t : ℕ) → part-at-lts.Need-returns-2 (asks t) (part-at-a
 part-at-returns-2 t c =
     let operands = c .before .before .operands in
     let node-at = c .before .before .before .node-at in
-    unknown-none _ _ _ (sym (operands .ensures) ∙ c .if2 .taken) (node-at .ensures)
+    nothing-none _ _ _ (sym (operands .ensures) ∙ c .if2 .taken) (node-at .ensures)
 
 part-at-returns-3 : (t : ℕ) → part-at-lts.Need-returns-3 (asks t) (part-at-at t) part-at.Post
 part-at-returns-3 t c =

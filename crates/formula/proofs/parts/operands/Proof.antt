@@ -1,6 +1,6 @@
 -- `operands` meets its contract, line by line.
 use mathlib.Core.Path.{ap, sym}
-use Rattle.formula.specs.Printing.{sortOf, takes}
+use Rattle.formula.specs.InsidePrinting.{sortOf, takes}
 use Rattle.formula.proofs.Sorts.{no-kind}
 use borrow.Author.Needs.{needs}
 use Rattle.formula.proofs.parts.operands.Statement.{statement}

@@ -1,7 +1,7 @@
 -- `signs_size` meets its contract, line by line.
 use Prim.Native.Nat.{ℕ}
 use mathlib.Core.Path.{ap, sym}
-use Rattle.formula.specs.Printing.{sortOf, signs}
+use Rattle.formula.specs.InsidePrinting.{sortOf, signs}
 use Rattle.formula.proofs.Sorts.{last-signed}
 use borrow.Author.Needs.{needs}
 use Rattle.formula.proofs.parts.signs_size.Statement.{statement}

@@ -2,7 +2,7 @@
 use mathlib.Core.Path.{sym, _∙_}
 use Prim.Native.Nat.{ℕ, _-_, _<_}
 use native.Mathlib.Omega.{arith}
-use Rattle.formula.specs.Printing.{Writable}
+use Rattle.formula.specs.InsidePrinting.{Writable}
 use Rattle.formula.proofs.Writing.{leaf-fits, leaf-written, opening-fits, both-left, prefix-below, prefix-written}
 use Rattle.formula.proofs.Joining.{Opened, Half, Joined, Ended, is-opened, is-half, is-joined, is-ended, one-below, middle-fits, other-below, closing-fits, pair-written}
 use borrow.Author.Needs.{needs}

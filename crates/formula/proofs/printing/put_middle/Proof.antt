@@ -3,7 +3,7 @@ use mathlib.Core.Path.{subst}
 use Prim.Native.Nat.{ℕ, _+_, _≤_}
 use lib.ListN.{length}
 use mathlib.Core.List.{List}
-use Rattle.formula.specs.Printing.{sortOf, inner}
+use Rattle.formula.specs.InsidePrinting.{sortOf, inner}
 use Rattle.formula.proofs.Sorts.{later-pair}
 use Rattle.formula.proofs.Writing.{line-room, line-put}
 use borrow.Author.Needs.{needs}

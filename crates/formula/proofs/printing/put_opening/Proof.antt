@@ -1,5 +1,5 @@
 -- `put_opening` meets its contract, line by line.
-use Rattle.formula.specs.Printing.{sortOf, front}
+use Rattle.formula.specs.InsidePrinting.{sortOf, front}
 use Rattle.formula.proofs.Sorts.{last-signed}
 use Rattle.formula.proofs.Writing.{line-room, line-put}
 use borrow.Author.Needs.{needs}

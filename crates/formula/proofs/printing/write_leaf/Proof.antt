@@ -1,7 +1,7 @@
 -- `write_leaf` meets its contract: true, or p and the number.
 use native.Mathlib.Omega.{arith}
 use Rattle.lists.proofs.Placed.{put-then}
-use Rattle.formula.specs.Printing.{Sort, sortOf, leafText}
+use Rattle.formula.specs.InsidePrinting.{Sort, sortOf, leafText}
 use Rattle.formula.proofs.Sorts.{other-leaf}
 use Rattle.formula.proofs.Writing.{line-room, line-put}
 use borrow.Author.Needs.{needs}

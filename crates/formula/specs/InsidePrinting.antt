@@ -8,7 +8,7 @@ use Rattle.lists.specs.Rows.{Put}
 use Rattle.values.specs.Limits.{mostNodes, mostFormula, mostNodeNumbers}
 use Rattle.values.specs.Signs.{decimal}
 use Rattle.formula.specs.Tree.{Prefix, NOT, EX, Pair, AND, EU, AU, Formula, TRUE, ATOM, one, two, Named}
-use Rattle.formula.specs.Text.{sign, opening, middle, closing, textOf}
+use Rattle.formula.specs.Text.{constant, letter, sign, opening, middle, closing, textOf}
 use Rattle.formula.specs.Nodes.{prefixKind, pairKind}
 use Rattle.formula.specs.Answers.{YieldsPart}
 use Rattle.formula.specs.declared.parts.Node.{Node}
@@ -17,13 +17,13 @@ use Rattle.formula.specs.declared.parts.Part.the-variants as part
 
 -- what a kind's number tells: true, an atom, what stands before one formula, what joins two, or that there is no such kind
 pub data Sort : Type 0 where
-  truth atom unknown : Sort
+  truth atom nothing : Sort
   prefix : Prefix → Sort
   pair : Pair → Sort
 
 -- the kinds by their numbers, from 0
 unfoldable pub sortOf : ℕ → Sort
-sortOf k = getD (truth ∷ atom ∷ prefix NOT ∷ pair AND ∷ prefix EX ∷ pair EU ∷ pair AU ∷ []) k unknown
+sortOf k = getD (truth ∷ atom ∷ prefix NOT ∷ pair AND ∷ prefix EX ∷ pair EU ∷ pair AU ∷ []) k nothing
 
 -- how many operands it has; of no kind, more than any
 abbrev pub takes : Sort → ℕ
@@ -31,7 +31,7 @@ takes truth = 0
 takes atom = 0
 takes (prefix p) = 1
 takes (pair q) = 2
-takes unknown = 3
+takes nothing = 3
 
 -- the signs in front of the first operand, and between the two
 abbrev pub front : Sort → List ℕ
@@ -39,14 +39,14 @@ front (prefix p) = sign p
 front (pair q) = opening q
 front truth = []
 front atom = []
-front unknown = []
+front nothing = []
 
 abbrev pub inner : Sort → List ℕ
 inner (pair q) = middle q
 inner (prefix p) = []
 inner truth = []
 inner atom = []
-inner unknown = []
+inner nothing = []
 
 -- how many signs there are besides the operands
 abbrev pub signs : Sort → ℕ
@@ -54,15 +54,15 @@ signs (prefix p) = length (sign p)
 signs (pair q) = length (opening q) + length (middle q) + length closing
 signs truth = 0
 signs atom = 0
-signs unknown = 0
+signs nothing = 0
 
 -- the text of a node without operands
 abbrev pub leafText : Sort → ℕ → List ℕ
-leafText truth a = 84 ∷ []
-leafText atom a = 112 ∷ decimal a
+leafText truth a = constant
+leafText atom a = letter ∷ decimal a
 leafText (prefix p) a = []
 leafText (pair q) a = []
-leafText unknown a = []
+leafText nothing a = []
 
 -- the three numbers of node k
 pub record Triple (nodes : List ℕ) (k a b c : ℕ) : Type 0 where
@@ -86,29 +86,33 @@ pub record Inside (nodes : List ℕ) (k : ℕ) : Type 0 where
   pub few : length nodes ≤ mostNodeNumbers
 
 -- the formula that ends at node k: where its nodes begin, and how long its text is
-pub record Found (nodes : List ℕ) (k first bytes : ℕ) : Type 0 where
+pub record Ended (nodes : List ℕ) (k first bytes : ℕ) : Type 0 where
   pub formula : Formula
   pub named : Named formula
   pub stands : Stands nodes k first formula
   pub long : bytes ≡ length (textOf formula)
 
--- `part`: the formula that ends at node k, or that there is none
+-- `part_at`: the formula that ends at node k, or that there is none
 pub record PartFound (nodes : List ℕ) (k : ℕ) (r : Part) : Type 0 where
-  pub found : (first bytes : ℕ) → r ≡ part.Of first bytes → Found nodes k first bytes
+  pub found : (first bytes : ℕ) → r ≡ part.Of first bytes → Ended nodes k first bytes
   pub none : r ≡ part.None → (f : Formula) (first : ℕ) → Named f → Stands nodes k first f → ⊥
 
 -- `leaf_part`: the same of a node whose numbers are known
 pub record LeafFound (node : Node) (k : ℕ) (r : Part) : Type 0 where
   pub tells : (nodes : List ℕ) → NodeAt nodes k node → PartFound nodes k r
 
+-- no node has more than six signs, so that no formula has more than these
+abbrev pub mostSigns : ℕ
+mostSigns = 6 * mostNodes
+
 -- `prefix_part`: the same of a node with one operand, where that ends at the node before it
 pub record PrefixAsked (node : Node) (k bytes : ℕ) : Type 0 where
   pub takes-one : takes (sortOf (node .kind)) ≡ 1
   pub later : 0 < k
-  pub few : bytes ≤ 6 * mostNodes
+  pub few : bytes ≤ mostSigns
 
 pub record PrefixFound (node : Node) (k first bytes : ℕ) (r : Part) : Type 0 where
-  pub tells : (nodes : List ℕ) → NodeAt nodes k node → Found nodes (k - 1) first bytes → PartFound nodes k r
+  pub tells : (nodes : List ℕ) → NodeAt nodes k node → Ended nodes (k - 1) first bytes → PartFound nodes k r
 
 -- a kind that has signs of its own
 pub record Signed (kind : ℕ) : Type 0 where
@@ -143,7 +147,7 @@ pub record Written (nodes : List ℕ) (k : ℕ) (before after : List ℕ) (place
 -- `accepted_part`: node k is the whole of an accepted formula, or of none
 pub record PartAccepted (nodes : List ℕ) (k first bytes : ℕ) : Type 0 where
   pub inside : Inside nodes k
-  pub found : Found nodes k first bytes
+  pub found : Ended nodes k first bytes
   pub short : bytes ≤ mostFormula
 
 pub record PartYielded (nodes : List ℕ) (k : ℕ) (r : Part) : Type 0 where
