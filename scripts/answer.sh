@@ -37,12 +37,24 @@ run() { # ARGUMENTS
     [ -n "$first" ] || die 3 "the program wrote no answer"
 }
 
+# What a number means. Who typed a formula has written no list of nodes, and nothing is printed from one.
+meaning() { # NUMBER
+    case ${formula+formula}:$1 in
+        formula:10) words="no node, or more than the limit, in the model's text or in the formula" ;;
+        formula:12) words="an atom that the model hasn't" ;;
+        *)
+            words=$(rule Refusals "$1")
+            words=${words%%; printing:*}
+            ;;
+    esac
+    echo "${words:-docs/RULES.md has no such number}"
+}
+
 # What a number means, and what it was in this model or this formula.
 explain() { # NUMBER [AWK-SETTINGS]
     number=$1
     shift
-    words=$(rule Refusals "$number")
-    say "refused with $number: ${words:-docs/RULES.md has no such number}"
+    say "refused with $number: $(meaning "$number")"
     cause=$(find_cause "$number" "$@")
     [ -z "$cause" ] || say "$cause"
     [ "$number" != 20 ] || grammar >&2
@@ -51,10 +63,12 @@ explain() { # NUMBER [AWK-SETTINGS]
 find_cause() { # NUMBER [AWK-SETTINGS]
     number=$1
     shift
+    # nothing is said of a formula that there is no room for
+    [ -z "${formula+yes}" ] || { printf '%s\n' "$formula" >"$own/formula"; } 2>/dev/null || return 0
     ended=$(tail -c 1 <"$model" | wc -l)
     size=$(wc -c <"$model")
     [ "$size" -lt "$most_kept" ] || size="$size or more"
-    tr '\000' '?' <"$model" | asked=${formula-} awk -v number="$number" -v ended="$ended" -v size="$size" -v by_formula="${formula+yes}" \
+    tr '\000' '?' <"$model" | asked=$own/formula awk -v number="$number" -v ended="$ended" -v size="$size" -v by_formula="${formula+yes}" \
         -v most_states="$(most states)" -v most_atoms="$(most atoms)" -v most_transitions="$(most transitions)" -v most_nodes="$(most nodes)" \
         -v most_text="$(most text)" -v most_formula="$(most formula)" -v most_kind="$(most kind)" "$@" \
         -f "$root/scripts/formula.awk" -f "$root/scripts/cause.awk"

@@ -1,7 +1,7 @@
 # What a refusal's number was in this model: reads the model's text as far as its form holds and prints one line, or none where nothing is
 # found. It serves the messages of the scripts alone; what is judged or refused, the programs say. formula.awk is read before it.
 # Set before: number, ended (1 where the text ends in a line feed), size (bytes), most_.. (the limits); node or start for a path question;
-# by_formula where a formula was asked, which the environment has as `asked`: in a setting awk would read its backslashes.
+# by_formula where a formula was asked, which stands in the file that the environment has as `asked`.
 function is_number(s) { return s ~ /^(0|[1-9][0-9]*)$/ && length(s) <= 5 && s + 0 <= 65535 }
 function are_numbers(s, n, part, i) {
     if (split(s, part, ",") != n) return 0
@@ -87,9 +87,9 @@ END {
     if (number == 9) for (s = 0; s < count["states"]; s++) if (!(s in leaves)) found("state " s " has no transition out")
     if (number == 15) found(below(count["states"], "states") ", here " start)
     if (number == 18) found("at most " most_text " bytes, here " size)
-    if (by_formula && number == 10) found("a formula has at most " most_nodes " nodes, here " nodes_in(ENVIRON["asked"]))
-    if (by_formula && number == 12) found(atom_beyond(ENVIRON["asked"], count["atoms"]))
-    if (by_formula && number == 20) found(fault_in(ENVIRON["asked"]))
+    if (by_formula && number == 10) found("a formula has at most " most_nodes " nodes, here " nodes_in(asked()))
+    if (by_formula && number == 12) found(atom_beyond(asked(), count["atoms"]))
+    if (by_formula && number == 20) found(fault_in(asked()))
     if (number == "node") {
         for (i = 0; i < nodes; i++) if (kind[i] == 5) untils = untils (untils == "" ? "" : ", ") i
         if (node + 0 >= nodes) found(below(nodes, "nodes") ", here " node)

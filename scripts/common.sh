@@ -139,6 +139,24 @@ begins_formula() { # WORD
     case $1 in T | p[0-9]* | '!'* | '('* | EX | 'EX '* | 'E('* | 'A('*) ;; *) return 1 ;; esac
 }
 
+# A formula, or its first word without quotes, in the place of the file.
+is_formula_for_file() { # WORD
+    [ ! -e "$1" ] && begins_formula "$1"
+}
+
+file_first() { # WORD
+    wrong "there is no file '$1': the file comes first, and then the formula in quotes"
+}
+
+# Blanks stand only around U and behind EX: of the pieces of a formula without quotes, one begins or ends there.
+quotes="a formula with blanks is put in quotes"
+in_pieces() { # WORDS
+    for word; do
+        case $word in U | 'U '* | *' U' | EX | *['!(& ']EX) return 0 ;; esac
+    done
+    return 1
+}
+
 # In a call without a file, a word that may be a file is one whose question was forgotten, and no model is waited for.
 not_forgotten() { # WORD
     [ ! -e "$1" ] || wrong "'$1' is a file, and what is asked of it isn't whole; where it is the formula, write - before it"

@@ -1,4 +1,12 @@
 # What is found in a formula's text, for the messages that cause.awk makes. Whether a text is a formula, the programs say.
+
+# It stands in a file: with a name before it, as in the environment, the longest word of a call is too long, and awk reads the backslashes of
+# a setting.
+function asked(text, line, lines) {
+    while ((getline line <ENVIRON["asked"]) > 0) text = text (lines++ ? "\n" : "") line
+    return text
+}
+
 function plain(limit) { gsub(",", "", limit); return limit + 0 }
 
 # Reading goes on at `place` and stops at the first byte that no formula could have there; `wanted` is what could stand there.
@@ -58,7 +66,7 @@ function fault_in(text, byte, hint) {
     if (wanted == " ") wanted = "a blank"
     if (place > length(text)) return "the formula ends behind byte " length(text) "; due there: " wanted
     byte = substr(text, place, 1)
-    if (byte ~ /^[aetux]$/) hint = "; A, E, T, U and X are capital letters"
+    if (byte ~ /^[aetux]$/ && (wanted == "a formula" || wanted == "U" || wanted == "X or (")) hint = "; A, E, T, U and X are capital letters"
     if (byte == "P") hint = "; an atom has a small p"
     if (byte == "&" && wanted ~ /^the end/) hint = "; an and has brackets around it"
     return "byte " place " of the formula is " named(byte) "; due there: " wanted hint

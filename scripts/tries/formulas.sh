@@ -20,6 +20,11 @@ refuses() { # NUMBER TEXT FORMULA WORDS
     call "$ask" refused "$3" >"$out"
     status 1 && says "refused with $1: " && says "$4" && wrote "answer=$1" && no_scratch
 }
+not_said() { ! grep -F -- "$1" "$err"; }
+refuses_alone() { # NUMBER TEXT FORMULA WORDS: these, and not those of the other calls
+    refuses "$@" && not_said printing && not_said operand && not_said unused && not_said "multiple of 3"
+}
+no_capital() { refuses 20 "$graph" "$1" "$2" && not_said capital; }
 lists() { # WORDS-OF-THE-PROGRAM ARGUMENTS, the model on standard input too
     expected=$1
     shift
@@ -53,6 +58,7 @@ if [ -e "$house/ask" ]; then
     cp listing true
     many=$(printf '%64s' '' | tr ' ' '!')
     long=$(printf '%4096s' '' | tr ' ' '!')
+    longest=$(printf '%131071s' '' | tr ' ' '!') # as the system takes a word
 
     try "help names the limits and the grammar, ./ask" explains
     try "a file and a formula" takes '[EX p0][]' echoed 'EX p0'
@@ -80,6 +86,8 @@ if [ -e "$house/ask" ]; then
     try "one word, an empty one" misasked "'' is neither a file nor a formula" "$ask" ''
     try "a file that isn't there, and a formula" misasked "there is no file 'nowhere'" "$ask" nowhere 'EX p0'
     try "a formula without quotes" misasked "put in quotes: 'EX p0'" "$ask" echoed EX p0
+    try "a formula without quotes, and no file, of three words" misasked "put in quotes: 'E(p0 U p1)'" "$ask" 'E(p0' U 'p1)'
+    try "a formula without quotes behind a file with a formula's beginning" misasked "put in quotes: 'EX p0'" "$ask" p2.model EX p0
     try "a formula without quotes, and no file" misasked "there is no file 'EX': the file comes first" "$ask" EX p0
     try "a formula before its file" misasked "there is no file '!p0': the file comes first" "$ask" '!p0' echoed
     try "an option that there isn't, ./ask" misasked "there is no option --part;" "$ask" --part echoed T
@@ -87,11 +95,22 @@ if [ -e "$house/ask" ]; then
     try "refusal 20, a bracket is missing" refuses 20 "$graph" 'E(p0 U p1' "the formula ends behind byte 9; due there: )"
     try "refusal 20, two blanks" refuses 20 "$graph" 'EX  p0' "byte 4 of the formula is a blank; due there: a formula"
     try "refusal 20, small letters" refuses 20 "$graph" 'ex p0' "byte 1 of the formula is 'e'; due there: a formula; A, E, T, U and X are capital"
+    try "refusal 20, a small u" refuses 20 "$graph" 'E(p0 u p1)' "byte 6 of the formula is 'u'; due there: U; A, E, T, U and X are capital"
+    try "refusal 20, a small x" refuses 20 "$graph" 'Ex p0' "byte 2 of the formula is 'x'; due there: X or (; A, E, T, U and X are capital"
+    try "refusal 20, a small letter where a number is due" no_capital parts "byte 2 of the formula is 'a'; due there: the number of an atom"
+    try "refusal 20, a small letter where nothing is due" no_capital p0x "byte 3 of the formula is 'x'; due there: the end of the formula"
+    try "refusal 20, a small letter where a blank is due" no_capital 'EXx' "byte 3 of the formula is 'x'; due there: a blank"
     try "refusal 20, a greater atom" refuses 20 "$graph" p32 "byte 3 of the formula is '2'; due there: no digit that makes it more than p31"
     try "refusal 20, a leading zero" refuses 20 "$graph" '!p00' "byte 4 of the formula is '0'; due there: no digit, as numbers have no leading zeros"
     try "refusal 20, a backslash" refuses 20 "$graph" '!\041' "byte 2 of the formula is '\\'"
     try "refusal 20, a byte beyond ASCII" refuses 20 "$graph" 'é' "byte 1 of the formula is a byte that no formula has"
     try "refusal 20, a long formula" refuses 20 "$graph" "${long}T" "at most 4,096 bytes, here 4097"
+    try "refusal 20, the longest word of a call" refuses 20 "$graph" "$longest" "at most 4,096 bytes, here 131071"
+    try "refusal 20, line feeds" refuses 20 "$graph" $'T\n\n' "byte 2 of the formula is a byte that no formula has; due there: the end of the formula"
+    try "refusal 20, a long formula of line feeds" refuses 20 "$graph" "${long//!/$'\n'}T" "at most 4,096 bytes, here 4097"
+    try "refusal 20, nothing of printing" refuses_alone 20 "$graph" 'EX p0)' "a formula outside the grammar or above the limit"
+    try "refusal 12, nothing of operands" refuses_alone 12 "$graph" p1 "refused with 12: an atom that the model hasn't"
+    try "refusal 10, nothing of lists" refuses_alone 10 "$graph" "${many}T" "refused with 10: no node, or more than the limit"
     try "refusal 20 tells the grammar" grammar_told
     try "refusal 10, of the model" refuses 10 "${graph/nodes=2/nodes=65}" "${many}T" "the model's own nodes: 1 to 64 nodes, here 65"
     try "refusal 10, of the formula" refuses 10 "$graph" "${many}T" "a formula has at most 64 nodes, here 65"
@@ -119,6 +138,14 @@ if [ -e "$house/ask" ]; then
     try "./witness, a formula and a wrong count" misasked "'true' is no count" "$witness" 'E(T U p1)' 0 true true
     try "./witness, a formula and a wrong state" misasked "'true' is no state" "$witness" listing 'E(T U p1)' true true
     try "./witness, a formula without quotes" misasked "a formula with blanks is put in quotes" "$witness" listing 'E(T' U 'p1)' 0 true
+    try "./witness, a formula without quotes, and no file" misasked "a formula with blanks is put in quotes" "$witness" 'E(T' U 'p1)' 0 true
+    try "./witness, a formula without quotes, and no state" misasked "a formula with blanks is put in quotes" "$witness" 'E(T' U 'p1)'
+    try "./witness, a formula in two pieces" misasked "'p1)' is no state: a number up to 65535 is due; a formula with" "$witness" listing 'E(T U' 'p1)' 0 true
+    try "./witness, a formula in two pieces behind EX" misasked "'p1)' is no state: a number up to 65535 is due; a formula with" "$witness" listing 'E(T U EX' 'p1)' 0 true
+    try "./witness, a formula before its file" misasked "there is no file 'E(T U p1)': the file comes first" "$witness" 'E(T U p1)' listing 0 true
+    try "./witness, a formula before its file, and a count" misasked "there is no file 'E(T U p1)': the file comes first" "$witness" 'E(T U p1)' listing 0 true 5
+    try "./witness, the longest word of a call" answered 1 answer=20 "at most 4,096 bytes, here 131071" "$longest" 0 true
+    try "./witness, refusal 12 of a node" answered 1 answer=12 "an operand that is not earlier" 1 0 true
     try "./witness, another formula" answered 2 "no question: this formula is no exists-until" "E(f U g), with nothing before it" '!E(T U p0)' 0 true
     try "./witness, refusal 20" answered 1 answer=20 "due there: a formula" 'E(T U )' 0 true
     try "./witness, refusal 10 of the formula" answered 1 answer=10 "a formula has at most 64 nodes, here 67" "E(T U ${many}T)" 0 true

@@ -41,6 +41,11 @@ at_a_start() { # FILE OF SCRIPTS
     cp "$room/kept" "$house/scripts/$1"
     status 143 && none_at_work && no_scratch
 }
+heard() { # the beginning of scripts/faults, where signals are ignored
+    { sed -n '/^if .*default-signal/,/^fi$/p' "$here/faults" && echo 'trap -p HUP INT QUIT USR1'; } >"$room/again"
+    (trap '' HUP INT QUIT USR1 && exec env -u HEARING bash "$room/again") >"$out"
+    wrote ""
+}
 
 try "TERM right behind the start of the program" at_a_start answer.sh
 try "TERM right behind the start of reading" at_a_start common.sh
@@ -50,3 +55,4 @@ try "USR1 while nobody takes the answer" blocked_output USR1 138
 try "QUIT while nobody takes the answer, bash" blocked_output QUIT 131 bash
 try "TERM while the model doesn't come" blocked_input TERM 143
 try "HUP while the model doesn't come" blocked_input HUP 129
+if env --default-signal=HUP true 2>/dev/null; then try "signals that the caller ignores count in these cases" heard; fi
