@@ -50,9 +50,9 @@ each nodes (two q f g) k first s j a b =
     ⊎-elim
     (λ (e : j ≡ k). whole nodes j k first (two q f g) e s)
     (λ (l : j < k). ⊎-elim
-        (λ (h : j < s .1 .0 + 1). within nodes j (two q f g) f (λ n w. w .0) (omega (arith, length-joined q f g)) (omega arith) (each nodes f (s .1 .0) first (s .1 .1 .1 .0) j a (omega arith)))
-        (λ (h : s .1 .0 + 1 ≤ j). within nodes j (two q f g) g (λ n w. w .1) (omega (arith, length-joined q f g)) (omega arith) (each nodes g (k - 1) (s .1 .0 + 1) (s .1 .1 .1 .1) j h (omega arith)))
-        (lt-or-le j (s .1 .0 + 1)))
+    (λ (h : j < s .1 .0 + 1). within nodes j (two q f g) f (λ n w. w .0) (omega (arith, length-joined q f g)) (omega arith) (each nodes f (s .1 .0) first (s .1 .1 .1 .0) j a (omega arith)))
+    (λ (h : s .1 .0 + 1 ≤ j). within nodes j (two q f g) g (λ n w. w .1) (omega (arith, length-joined q f g)) (omega arith) (each nodes g (k - 1) (s .1 .0 + 1) (s .1 .1 .1 .1) j h (omega arith)))
+    (lt-or-le j (s .1 .0 + 1)))
     (last-or-before (omega arith))
 
 -- of a formula's own list
