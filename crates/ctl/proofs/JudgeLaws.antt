@@ -3,6 +3,7 @@ use mathlib.Core.Path.{_≡_, refl, sym, ap, _∙_, subst}
 use Prim.Native.Nat.{ℕ, _-_}
 use mathlib.Core.List.{List, [], _∷_, _++_}
 use mathlib.Core.Bool.{false}
+use native.Mathlib.Nat.{le-of-eq}
 use lib.ListN.{length, getD}
 use lib.Dec.{eqb}
 use borrow.Author.Tests.{ne-eqb}
@@ -17,13 +18,15 @@ use Rattle.model.specs.Model.{Model, nodeCount}
 use Rattle.model.specs.Refusals.{judgeRefusal}
 use Rattle.model.specs.declared.Examined.{Examined}
 use Rattle.ctl.specs.Answers.{Judging, judgedAs, numberDue}
-use Rattle.ctl.specs.Inside.{RowsFit, RowsPut, RowsReady, lastRow, structureOf}
+use Rattle.ctl.specs.Inside.{LastReady, RowsFit, RowsPut, RowsReady, lastRow, operandRow, structureOf}
 use Rattle.ctl.specs.Nodes.{nodeRow, nodeValue}
 use Rattle.ctl.specs.Rows.{modelVerdict, overInitial, rowsFrom, rowsOf, storedRows}
 use Rattle.ctl.specs.declared.Judged.{Judged}
 use Rattle.ctl.specs.declared.Judged.the-variants.{Verdicts, Refused}
 use Rattle.ctl.proofs.FineRows.{rows-held}
+use Rattle.ctl.proofs.OverInitial.{initial-some}
 use Rattle.kripke.proofs.Read.{begun}
+use Rattle.model.specs.Inside.{Fine}
 use Rattle.model.proofs.Fine.{judge-fine}
 
 -- the part of a model that its rows go by
@@ -83,10 +86,18 @@ module _ (m : Model) where
   unfolding judgedAs
   judged-rows before after r z e v = record { answer = v ∙ rw z; space = e ∙ rw z }
 
-  -- what the last row gives over the initial states is the model's verdict
-  pub last-verdict : (begins before after : List ℕ) → RowsReady (structure m) begins (m .nodes) before → RowsPut (structure m) (m .nodes) before after → RowsFit (m .states) (nodeCount (m .nodes)) after × (overInitial (m .states) (m .initial) (lastRow (m .states) (nodeCount (m .nodes)) after) ≡ modelVerdict m)
-  unfolding modelVerdict
-  last-verdict begins before after ready put =
-      let n : ℕ = nodeCount (m .nodes) in
-      let h = rows-held (structure m) begins (m .nodes) before (ready .judgeable) (ready .room) (ready .nodes .triples) after put in
-      (h .0, ap (overInitial (m .states) (m .initial)) (h .1 (n - 1) ∙ ap (λ (rows : List (List ℕ)). getD rows (n - 1) []) (rows-of m)))
+  module _ (begins before after : List ℕ) (ready : RowsReady (structure m) begins (m .nodes) before) (put : RowsPut (structure m) (m .nodes) before after) where
+    abbrev n : ℕ
+    n = nodeCount (m .nodes)
+
+    stand : RowsFit (m .states) n after × ((k : ℕ) → operandRow (m .states) after n k ≡ getD (rowsFrom (structure m) [] (m .nodes)) k [])
+    stand = rows-held (structure m) begins (m .nodes) before (ready .judgeable) (ready .room) (ready .nodes .triples) after put
+
+    -- the last of the rows can be read, and some state is initial
+    pub last-ready : (room : ℕ) → Fine m room → LastReady (m .states) n (m .initial) after
+    last-ready room f = record { rows = stand .0; last = f .some; listed = le-of-eq (sym (f .initials)); some = initial-some (m .initial) (m .states) (f .starts .0) (f .starts .1) (f .starts .2) }
+
+    -- what it gives over the initial states is the model's verdict
+    pub last-verdict : overInitial (m .states) (m .initial) (lastRow (m .states) n after) ≡ modelVerdict m
+    unfolding modelVerdict
+    last-verdict = ap (overInitial (m .states) (m .initial)) (stand .1 (n - 1) ∙ ap (λ (rows : List (List ℕ)). getD rows (n - 1) []) (rows-of m))

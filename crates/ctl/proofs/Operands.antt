@@ -11,9 +11,11 @@ use borrow.Author.Tests.{lt-ltb, le-ltb, le-leb}
 use Rattle.ctl.specs.Inside.{OperandRead, RowsFit, operandRow}
 use Rattle.values.specs.Answers.{rowRead}
 use Rattle.values.specs.Limits.{mostStates}
-use Rattle.values.specs.Rows.{badRow, rowBegin, rowIn, rowSize, rowValues}
+use Rattle.values.specs.Rows.{badRow, rowBegin, rowIn, rowSize, rowValues, valueAt}
+use Rattle.values.specs.Values.{top}
 use Rattle.lists.specs.Entries.{at}
-use Rattle.values.proofs.StoredRows.{row-read}
+use Rattle.values.proofs.StoredRows.{row-read, row-values-small}
+use Rattle.lists.proofs.Rows.{tab-at}
 use Rattle.lists.proofs.Tests.{and-both}
 use Rattle.values.specs.declared.rows.Row.{Row}
 
@@ -43,6 +45,13 @@ operand-row S space i k fit h r bytes b e =
       long = taken .long;
       here = λ s. ap (λ (x : Row). at (x .values) s) e ∙ ap (λ (t : Bool). at (cond t (rowValues S bytes ++ replicate (mostStates - S) 0) (replicate mostStates 0)) s) valid ∙ behind-zeros (rowValues S bytes) (mostStates - S) s ∙ ap (λ (x : List ℕ). at (rowValues S x) s) b ∙ rw (lt-ltb k i h);
     }
+
+-- the values of an earlier node's row are at most 2
+pub operand-small : (S : ℕ) (space : List ℕ) (i k : ℕ) → RowsFit S i space → k < i → (values : List ℕ) → OperandRead S space i k values → (s : ℕ) → s < S → at values s ≤ top
+unfolding operandRow rowValues
+operand-small S space i k fit h values read s l =
+    let here : at values s ≡ valueAt (rowIn S space k) s = read .here s ∙ rw (lt-ltb k i h) (tab-at (valueAt (rowIn S space k)) S s l) in
+    omega (arith, here, row-values-small S (rowIn S space k) (fit .stand k h) s)
 
 -- the part that is lent holds the row's bytes
 pub operand-bytes : (S : ℕ) (space : List ℕ) (k size : ℕ) → size ≡ rowSize S → take (k * size + size - k * size) (drop (k * size) space) ≡ rowIn S space k

@@ -1,19 +1,20 @@
--- A relation between values that not, and, or keep holds of all rows of two models if it holds of their labels.
+-- A relation between values that not, and, or keep holds of all rows and of the verdicts of two models if it holds of their labels.
 use mathlib.Core.Path.{_≡_, refl, _∙_}
-use Prim.Native.Nat.{ℕ, zero, suc, _+_, _*_, _≤_, _<_}
+use Prim.Native.Nat.{ℕ, zero, suc, _+_, _*_, _-_, _≤_, _<_}
 use mathlib.Core.List.{List, [], _∷_, _++_}
 use mathlib.Core.Bool.{true, false}
 use mathlib.Core.Logic.{⊎-elim}
 use native.Mathlib.Omega.{arith}
 use lib.ListN.{length, getD, length-append, List·getD-eq-default}
 use Rattle.model.specs.Labels.{withLabels}
-use Rattle.model.specs.Model.{Model}
+use Rattle.model.specs.Model.{Model, nodeCount}
 use Rattle.model.specs.Kinds.{AND, ATOM, AU, EU, EX, Kind, NOT, TRUE, kindOf}
 use Rattle.ctl.specs.Nodes.{nodeRow, nodeValue}
-use Rattle.ctl.specs.Rows.{rowsFrom}
+use Rattle.ctl.specs.Rows.{modelVerdict, rowsFrom, rowsOf}
 use Rattle.values.specs.Values.{neg, top}
 use Rattle.lists.specs.Entries.{at}
 use Rattle.lists.specs.Rows.{tab}
+use Rattle.ctl.proofs.OverInitial.{initial-related}
 use Rattle.kripke.proofs.Related.{Kept, RowRelated, next-related, until-related}
 use Rattle.lists.proofs.Numbers.{lt-or-le}
 use Rattle.lists.proofs.Rows.{length-tab, tab-at}
@@ -71,6 +72,11 @@ module _ (Rel : ℕ → ℕ → Type 0) (K : Kleene Rel) where
 
     pub rows-related : (ns : List ℕ) → RowsRelated (rowsFrom m [] ns) (rowsFrom (withLabels m labels′) [] ns)
     rows-related ns = rows-from [] [] (record { count = refl; here = λ k s. K .kept .none }) ns
+
+    -- and so of the smallest values of their last rows at the initial states
+    pub verdict-related : Rel (modelVerdict m) (modelVerdict (withLabels m labels′))
+    unfolding modelVerdict rowsOf
+    verdict-related = initial-related Rel (K .kept) (m .states) (m .initial) _ _ (rows-related (m .nodes) .here (nodeCount (m .nodes) - 1))
 
 -- values stay within 0 to 2
 pub small-kept : Kept (λ (a b : ℕ). a ≤ top)

@@ -1,20 +1,14 @@
 -- Settling unknown labels changes no true or false verdict, and without unknown labels there is no unknown verdict: two relations that not, and, or keep.
-use mathlib.Core.Path.{_≡_, refl, sym, ap, ap₂, _∙_}
+use mathlib.Core.Path.{_≡_, refl, ap, ap₂}
 use Prim.Native.Nat.{ℕ, _≤_, min, max}
-use mathlib.Core.List.{List}
-use mathlib.Core.Bool.{Bool, true, false, cond, _&&_, and-false}
+use mathlib.Core.Bool.{Bool, true, false}
 use mathlib.Core.Logic.{_⊎_, inl, inr, ⊎-elim}
 use native.Mathlib.Omega.{arith}
 use lib.Dec.{eqb}
-use borrow.Author.Tests.{ne-eqb, eqb-true, eqb-false}
-use Rattle.ctl.specs.Rows.{initialWith, overInitial}
+use borrow.Author.Tests.{eqb-true, eqb-false}
 use Rattle.values.specs.Values.{neg, top}
-use Rattle.lists.specs.Entries.{anyBelow, at}
-use Rattle.ctl.proofs.OverInitial.{initial-false, initial-true, initial-unknown}
 use Rattle.ctl.proofs.Related.{Kleene}
-use Rattle.kripke.proofs.Least.{least}
 use Rattle.kripke.proofs.Related.{Kept}
-use Rattle.lists.proofs.Search.{any-never, any-none, any-same}
 
 -- two values up to 2, the first unknown or the same as the second
 pub record UnknownOrSame (a b : ℕ) : Type 0 where
@@ -81,41 +75,3 @@ known-kleene =
       true-true = inr refl;
       turned = λ a b p. ⊎-elim (λ (e : a ≡ 0). inr (omega arith)) (λ (e : a ≡ 2). inl (omega arith)) p;
     }
-
--- the verdict over the initial states of rows so related
-module _ (S : ℕ) (initial row : List ℕ) where
-  -- no initial state is unknown: the verdict goes by the false ones
-  no-unknown : ((s : ℕ) → (at row s ≡ 0) ⊎ (at row s ≡ 2)) → anyBelow (initialWith initial row 1) S ≡ false
-  no-unknown h = any-same (initialWith initial row 1) (λ (s : ℕ). false) S (λ s l. ap (λ (t : Bool). eqb (at initial s) 1 && t) (ne-eqb (at row s) 1 (λ e. ⊎-elim (λ (z : at row s ≡ 0). omega arith) (λ (z : at row s ≡ 2). omega arith) (h s))) ∙ and-false (eqb (at initial s) 1)) ∙ any-never S
-
-  pub initial-known : ((s : ℕ) → (at row s ≡ 0) ⊎ (at row s ≡ 2)) → (overInitial S initial row ≡ 0) ⊎ (overInitial S initial row ≡ 2)
-  initial-known h = go (anyBelow (initialWith initial row 0) S) refl
-    where
-      go : (t : Bool) → anyBelow (initialWith initial row 0) S ≡ t → (overInitial S initial row ≡ 0) ⊎ (overInitial S initial row ≡ 2)
-      go true e = inl (sym (initial-false S initial row (no-unknown h) e))
-      go false e = inr (sym (initial-true S initial row (no-unknown h) e))
-
-  pub initial-range : overInitial S initial row ≤ top
-  unfolding overInitial
-  initial-range = go (anyBelow (initialWith initial row 1) S) (anyBelow (initialWith initial row 0) S)
-    where
-      go : (a b : Bool) → cond a 1 (cond b 0 2) ≤ top
-      go true b = omega arith
-      go false true = omega arith
-      go false false = omega arith
-
-  pub initial-settles : (row′ : List ℕ) → ((s : ℕ) → UnknownOrSame (at row s) (at row′ s)) → (overInitial S initial row ≡ 1) ⊎ (overInitial S initial row ≡ overInitial S initial row′)
-  unfolding overInitial
-  initial-settles row′ h = go (anyBelow (initialWith initial row 1) S) refl
-    where
-      -- where no initial state is unknown the two rows agree on the initial states
-      agree : anyBelow (initialWith initial row 1) S ≡ false → (v : ℕ) → anyBelow (initialWith initial row v) S ≡ anyBelow (initialWith initial row′ v) S
-      agree e v = any-same (initialWith initial row v) (initialWith initial row′ v) S (λ s l. at-state s (eqb (at initial s) 1) (any-none (initialWith initial row 1) S e s l))
-        where
-          at-state : (s : ℕ) (t : Bool) → (t && eqb (at row s) 1) ≡ false → (t && eqb (at row s) v) ≡ (t && eqb (at row′ s) v)
-          at-state s false q = refl
-          at-state s true q = ⊎-elim (λ (u : at row s ≡ 1). absurd (eqb-false (at row s) 1 q u)) (λ (u : at row s ≡ at row′ s). ap (λ (x : ℕ). eqb x v) u) (h s .same)
-
-      go : (t : Bool) → anyBelow (initialWith initial row 1) S ≡ t → (overInitial S initial row ≡ 1) ⊎ (overInitial S initial row ≡ overInitial S initial row′)
-      go true e = inl (sym (initial-unknown S initial row e))
-      go false e = inr (ap₂ (λ (a b : Bool). cond a 1 (cond b 0 2)) (agree e 1) (agree e 0))

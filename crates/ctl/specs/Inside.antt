@@ -2,10 +2,10 @@
 use mathlib.Core.Path.{_≡_}
 use Prim.Native.Nat.{ℕ, _+_, _*_, _-_, _<_, _≤_, min}
 use mathlib.Core.List.{List, []}
-use mathlib.Core.Bool.{Bool, cond, false, _||_}
+use mathlib.Core.Bool.{Bool, cond, false}
 use lib.ListN.{length}
-use lib.Dec.{ltb, eqb}
-use Rattle.lists.specs.Entries.{at}
+use lib.Dec.{ltb}
+use Rattle.lists.specs.Entries.{Some, at}
 use Rattle.lists.specs.Rows.{fill, laid}
 use Rattle.values.specs.Limits.{mostStates}
 use Rattle.values.specs.Values.{top, neg}
@@ -16,7 +16,7 @@ use Rattle.model.specs.Model.{Model, asModel, nodeCount, kindAt, leftAt, rightA
 use Rattle.model.specs.Kinds.{Kind, TRUE, ATOM, NOT, AND, EX, EU, AU, kindOf}
 use Rattle.model.specs.Inside.{AtomFits, NodesFit}
 use Rattle.ctl.specs.Nodes.{nodeRow}
-use Rattle.ctl.specs.Rows.{rowsFrom, storedRows}
+use Rattle.ctl.specs.Rows.{initialStates, rowsFrom, storedRows}
 
 -- what a node's row goes by: a model without its initial list and its nodes
 abbrev pub structureOf : ℕ → ℕ → List ℕ → List ℕ → Model
@@ -97,6 +97,16 @@ RowsPut m ns before after = after ≡ fill (storedRows (rowsFrom m [] ns)) befor
 abbrev pub lastRow : ℕ → ℕ → List ℕ → List ℕ
 lastRow S n space = operandRow S space n (n - 1)
 
--- the verdict over some initial states, with one more of this value; a number above 2 changes nothing
-unfoldable pub joined : ℕ → ℕ → ℕ
-joined v w = cond (ltb top w) v (cond (eqb v 1 || eqb w 1) 1 (min v w))
+-- the rows of n nodes stand in a space, and some state is initial
+pub record LastReady (S n : ℕ) (initial space : List ℕ) : Type 0 where
+  pub rows : RowsFit S n space
+  pub last : 0 < n
+  pub listed : S ≤ length initial
+  pub some : Some (initialStates S initial)
+
+-- a row of values up to 2, one a state, of which some are initial
+pub record InitialRow (S : ℕ) (initial row : List ℕ) : Type 0 where
+  pub listed : S ≤ length initial
+  pub some : Some (initialStates S initial)
+  pub room : S ≤ length row
+  pub small : (s : ℕ) → s < S → at row s ≤ top

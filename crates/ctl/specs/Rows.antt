@@ -1,10 +1,11 @@
 -- The rows of a model's nodes, as they stand in the verdict space, and the model's verdict.
-use Prim.Native.Nat.{ℕ, _-_}
-use mathlib.Core.List.{List, [], _∷_, _++_}
-use mathlib.Core.Bool.{Bool, cond, _&&_}
+use Prim.Native.Nat.{ℕ, zero, suc, _-_, min}
+use mathlib.Core.List.{List, [], _∷_, _++_, map}
+use mathlib.Core.Bool.{cond}
 use lib.ListN.{getD}
 use lib.Dec.{eqb}
-use Rattle.lists.specs.Entries.{at, anyBelow}
+use Rattle.lists.specs.Entries.{at}
+use Rattle.lists.specs.Choosing.{best}
 use Rattle.values.specs.Rows.{storedRow}
 use Rattle.model.specs.Model.{Model, nodeCount}
 use Rattle.model.specs.Kinds.{kindOf}
@@ -30,14 +31,15 @@ unfoldable pub storedRows : List (List ℕ) → List ℕ
 storedRows [] = []
 storedRows (row ∷ rows) = storedRow row ++ storedRows rows
 
--- state s is initial and has this value in a row
-abbrev pub initialWith : List ℕ → List ℕ → ℕ → ℕ → Bool
-initialWith initial row v s = eqb (at initial s) 1 && eqb (at row s) v
+-- the initial states below n, ascending
+unfoldable pub initialStates : ℕ → List ℕ → List ℕ
+initialStates zero initial = []
+initialStates (suc s) initial = initialStates s initial ++ cond (eqb (at initial s) 1) (s ∷ []) []
 
--- over the initial states: 1 if any of them has 1, otherwise 0 if any has 0, otherwise 2
+-- the smallest of a row's values at the initial states
 unfoldable pub overInitial : ℕ → List ℕ → List ℕ → ℕ
-overInitial S initial row = cond (anyBelow (initialWith initial row 1) S) 1 (cond (anyBelow (initialWith initial row 0) S) 0 2)
+overInitial S initial row = best min (map (at row) (initialStates S initial))
 
--- the model's verdict is that of the last node over the initial states
+-- the model's verdict is the smallest of the last node's values there
 unfoldable pub modelVerdict : Model → ℕ
 modelVerdict m = overInitial (m .states) (m .initial) (getD (rowsOf m) (nodeCount (m .nodes) - 1) [])

@@ -1,10 +1,9 @@
 // Where the rows lie in the verdict space: an operand's row is read and a node's row is written here alone.
 use values::limits::MOST_STATES;
 use values::rows::Row;
-use values::verdict::Made;
 use values::verdict::Verdict;
 ghost use mathlib.Core.Path.{_≡_};
-ghost use Prim.Native.Nat.{_+_, _<_, _≤_};
+ghost use Prim.Native.Nat.{_+_, _≤_};
 ghost use lib.ListN.{length, take};
 ghost use Rattle.values.specs.Rows.{rowSize, rowBegin};
 ghost use Rattle.values.specs.Answers.{verdict};
@@ -103,48 +102,30 @@ pub(crate) fn put_rows(
     }
 }
 
-// Unknown if either is, otherwise false if either is, otherwise true; what is no verdict changes nothing.
-fn joined(found: Verdict, byte: u8) -> Verdict
-    ensures { λ r. ⌜ r ≡ verdict (inside.joined (found .0) byte) ⌝ }
-{
-    match Verdict::of(byte) {
-        Made::One(value) => {
-            if found.0 == Verdict::UNKNOWN.0 {
-                return found;
-            }
-            if value.0 == Verdict::UNKNOWN.0 {
-                return value;
-            }
-            found.and(value)
-        }
-        Made::None => found,
-    }
-}
-
-// The verdict of a row over the initial states.
+// The smallest of a row's values at the initial states.
 fn over_initial(states: usize, initial: &[u8], row: &[u8]) -> Verdict
-    requires { ⌜ (states ≤ length (now initial)) × (states ≤ length (now row)) ⌝ }
+    requires { ⌜ inside.InitialRow states (now initial) (now row) ⌝ }
     ensures { λ r. ⌜ r ≡ verdict (overInitial states (now (initial .entry)) (now (row .entry))) ⌝ }
 {
     let mut found = Verdict::TRUE;
     let mut s: usize = 0;
     while s < states {
         if initial[s] == 1 {
-            found = joined(found, row[s]);
+            found = found.and(Verdict(row[s]));
         }
         s += 1;
     }
     found
 }
 
-// The verdict of the last row over the initial states.
+// The smallest of the last row's values at the initial states.
 pub(crate) fn model_verdict(
     states: usize,
     initial: &[u8],
     nodes: &[u16],
     verdicts: &[u8],
 ) -> Verdict
-    requires { ⌜ inside.RowsFit states (nodeCount (now nodes)) (now verdicts) × (0 < nodeCount (now nodes)) × (states ≤ length (now initial)) ⌝ }
+    requires { ⌜ inside.LastReady states (nodeCount (now nodes)) (now initial) (now verdicts) ⌝ }
     ensures { λ r. ⌜ r ≡ verdict (overInitial states (now (initial .entry)) (inside.lastRow states (nodeCount (now (nodes .entry))) (now (verdicts .entry)))) ⌝ }
 {
     let n = nodes.len() / 3;

@@ -1,7 +1,7 @@
 -- Laws of `at`, `Some` and `All`: lists read entry by entry.
 use mathlib.Core.Path.{_≡_, refl, sym, subst}
 use Prim.Native.Nat.{ℕ, zero, suc, _<_}
-use mathlib.Core.List.{List, [], _∷_, _++_, map, List·Memᴰ, List·Memᴰ·head, List·Memᴰ·tail}
+use mathlib.Core.List.{List, [], _∷_, _++_, map, List·Memᴰ, List·Memᴰ·head, List·Memᴰ·tail, List·Memᴰ·not-nil}
 use mathlib.Core.Bool.{false}
 use native.Mathlib.Omega.{arith}
 use lib.ListN.{length, getD}
@@ -15,6 +15,10 @@ some-map f (x ∷ xs) h = tt
 pub some-append {ℓ} : {A : Type ℓ} (xs ys : List A) → Some xs → Some (xs ++ ys)
 some-append [] ys h = absurd h
 some-append (x ∷ xs) ys h = tt
+
+pub some-member {ℓ} : {A : Type ℓ} {x : A} (xs : List A) → List·Memᴰ x xs → Some xs
+some-member [] m = absurd (List·Memᴰ·not-nil m)
+some-member (x ∷ xs) m = tt
 
 pub some-of {ℓ} : {A : Type ℓ} (xs : List A) → isNil xs ≡ false → Some xs
 some-of [] e = subst T e tt

@@ -1,10 +1,11 @@
 -- Laws of `anyBelow`: a search that has found nothing yet, that finds something, and that ends.
-use mathlib.Core.Path.{_≡_, refl, sym, ap, _∙_}
+use mathlib.Core.Path.{_≡_, refl, sym, ap, _∙_, subst}
 use Prim.Native.Nat.{ℕ, zero, suc, _+_, _≤_, _<_}
 use native.Mathlib.Numerals.{add-one}
 use native.Mathlib.Omega.{arith}
 use mathlib.Core.Bool.{Bool, true, false, _||_, or-true}
 use mathlib.Core.Logic.{⊎-elim}
+use lib.Dec.{T}
 use Rattle.lists.specs.Entries.{anyBelow}
 use Rattle.lists.proofs.Numbers.{last-or-before}
 use Rattle.lists.proofs.Tests.{or-neither}
@@ -27,6 +28,16 @@ any-found p i (suc n) l h =
     (λ (e : i ≡ n). ap (λ (b : Bool). anyBelow p n || b) (ap p (sym e) ∙ h) ∙ or-true (anyBelow p n))
     (λ (k : i < n). ap (λ (b : Bool). b || p n) (any-found p i n k h))
     (last-or-before l)
+
+-- where a search that found something found it
+pub any-where : (p : ℕ → Bool) (n : ℕ) → anyBelow p n ≡ true → (i : ℕ) × (i < n) × (p i ≡ true)
+unfolding anyBelow
+any-where p zero e = absurd (subst T (sym e) tt)
+any-where p (suc n) e = go (anyBelow p n) refl (any-where p n)
+  where
+    go : (b : Bool) → anyBelow p n ≡ b → (anyBelow p n ≡ true → (i : ℕ) × (i < n) × (p i ≡ true)) → (i : ℕ) × (i < suc n) × (p i ≡ true)
+    go true q before = let found = before q in (found .0, omega (arith, found .1), found .2)
+    go false q before = (n, omega arith, ap (λ (b : Bool). b || p n) (sym q) ∙ e)
 
 -- a search that has come to n
 pub any-all : (p : ℕ → Bool) (i n : ℕ) (b : Bool) → anyBelow p i ≡ b → i ≤ n → n ≤ i → anyBelow p n ≡ b

@@ -3,6 +3,7 @@ use mathlib.Core.Path.{_≡_, sym, ap, _∙_, subst}
 use Prim.Native.Nat.{ℕ, _*_, _<_, _≤_}
 use mathlib.Core.List.{List, [], _∷_, _++_}
 use mathlib.Core.Bool.{Bool, false, not}
+use native.Mathlib.Omega.{arith}
 use lib.ListN.{length}
 use lib.Dec.{eqb, ltb}
 use borrow.Author.Tests.{le-ltb, ltb-true, ltb-false, eqb-true, not-false}
@@ -16,11 +17,11 @@ use Rattle.values.specs.Rows.{rowBegin, someAbove}
 use Rattle.values.specs.Values.{top}
 use Rattle.kripke.specs.Refusals.{badCount, badList, falls, leaves, tableRefusal, transitionCauses}
 use Rattle.kripke.specs.Transitions.{count, succs}
-use Rattle.lists.specs.Entries.{anyBelow, isNil}
+use Rattle.lists.specs.Entries.{anyBelow, at, isNil}
 use Rattle.model.proofs.Lowest.{nodes-size}
 use Rattle.values.proofs.StoredRows.{none-above}
 use Rattle.lists.proofs.Causes.{none-refused, passed, skipped}
-use Rattle.lists.proofs.Search.{any-none}
+use Rattle.lists.proofs.Search.{any-none, any-where}
 use Rattle.lists.proofs.Tests.{or-neither}
 
 -- a node whose numbers lie below their bounds names an atom of the model if it names one
@@ -32,6 +33,12 @@ atom-fits A ns i e k =
 same-length : (S : ℕ) (initial : List ℕ) → badInitial S initial ≡ false → length initial ≡ S
 unfolding badInitial
 same-length S initial e = eqb-true (length initial) S (not-false _ (or-neither (not (eqb (length initial) S)) _ e .0))
+
+some-initial : (S : ℕ) (initial : List ℕ) → badInitial S initial ≡ false → (s : ℕ) × (s < S) × (at initial s ≡ 1)
+unfolding badInitial
+some-initial S initial e =
+    let found = any-where (λ (s : ℕ). eqb (at initial s) 1) (length initial) (not-false _ (or-neither (someAbove initial 1) _ (or-neither (not (eqb (length initial) S)) _ e .1) .1)) in
+    (found .0, omega (arith, found .1, same-length S initial e), eqb-true (at initial (found .0)) 1 (found .2))
 
 -- what a model has that is not refused
 pub judge-fine : (m : Model) (room : ℕ) → judgeRefusal m room ≡ 0 → Fine m room
@@ -62,6 +69,7 @@ judge-fine m room e =
       labelled = eqb-true (length labels) (S * A) (not-false _ (p3 .0));
       small = none-above labels top (p4 .0);
       initials = same-length S initial (p5 .0);
+      starts = some-initial S initial (p5 .0);
       some = size .0;
       few = size .1;
       nodes = record { triples = size .2; atoms = λ i h. atom-fits A ns i (any-none (badOperand A ns) (nodeCount ns) (p12 .0) i h) };

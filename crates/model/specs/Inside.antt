@@ -40,6 +40,7 @@ pub record Fine (m : Model) (room : ℕ) : Type 0 where
   pub labelled : length (m .labels) ≡ m .states * m .atoms
   pub small : (i : ℕ) → at (m .labels) i ≤ top
   pub initials : length (m .initial) ≡ m .states
+  pub starts : (s : ℕ) × (s < m .states) × (at (m .initial) s ≡ 1)
   pub some : 0 < nodeCount (m .nodes)
   pub few : nodeCount (m .nodes) ≤ mostNodes
   pub nodes : NodesFit (m .atoms) (m .nodes)

@@ -1,10 +1,10 @@
 -- Demand 2: the rows are the meaning, and one relational argument for each of range, settling and no-unknown.
 use mathlib.Core.Path.{_≡_, refl, sym, ap, _∙_, subst, subst₂}
 use Prim.Native.Nat.{ℕ, zero, suc, _-_, _≤_, _<_}
-use mathlib.Core.List.{List}
+use mathlib.Core.List.{List, []}
 use mathlib.Core.Logic.{_⊎_, inl, inr, ⊎-elim}
 use native.Mathlib.Omega.{arith}
-use lib.ListN.{length, List·getD-eq-default}
+use lib.ListN.{length, getD, List·getD-eq-default}
 use Rattle.lists.specs.Entries.{at}
 use Rattle.values.specs.Answers.{verdict}
 use Rattle.values.specs.Rows.{held, rowIn, rowValues, valueAt}
@@ -12,20 +12,24 @@ use Rattle.values.specs.Values.{top}
 use Rattle.model.specs.Labels.{Settled, labelCount, withLabels}
 use Rattle.model.specs.Model.{Model, leftAt, nodeCount}
 use Rattle.ctl.specs.Rows.{modelVerdict, rowsOf, verdictAt}
-use Rattle.promises.specs.Verdicts.{AcceptedFits, BeyondStays, CompletionKeeps, CompletionsThere, InRange, MeaningInRange, MeaningKnown, NextReaches, NoUnknown, RowsAreTheMeaning, Settling, SettlingAccepted, SettlingKeeps, Stays, There, written}
+use Rattle.promises.specs.Verdicts.{AcceptedFits, BeyondStays, CompletionKeeps, CompletionsThere, InRange, MeaningInRange, MeaningKnown, NextReaches, NoUnknown, RowsAreTheMeaning, Settling, SettlingAccepted, SettlingKeeps, SmallestInitial, Stays, There, lastOf, written}
 use Rattle.ctl.proofs.Held.{held-beyond, next-held}
-use Rattle.ctl.proofs.Related.{rows-related, small}
-use Rattle.ctl.proofs.Unknowns.{Known, UnknownOrSame, initial-known, initial-range, initial-settles, known-kleene, settling-kleene}
+use Rattle.ctl.proofs.OverInitial.{initial-some, smallest-bounds, smallest-picked}
+use Rattle.ctl.proofs.Related.{rows-related, small, verdict-related}
+use Rattle.ctl.proofs.Unknowns.{Known, UnknownOrSame, known-kleene, settling-kleene}
 use Rattle.kripke.proofs.Nexts.{next-reaches}
 use Rattle.kripke.proofs.Successors.{edge-state}
 use Rattle.lists.proofs.Numbers.{lt-or-le}
 use Rattle.lists.proofs.Rows.{tab-at}
+use Rattle.model.proofs.Fine.{judge-fine}
 use Rattle.model.proofs.Labels.{completion-settles, completions-there, labels-all, labels-there, settled-refusal}
 use Rattle.promises.proofs.Accepted.{accepted-verdict, answered, graph-there, number-none, rows-stand, written-value}
 
 pub meaningInRange : MeaningInRange
-unfolding rowsOf verdictAt modelVerdict
-meaningInRange m l = (rows-related (λ (a b : ℕ). a ≤ top) small m (m .labels) (labels-all (λ (v : ℕ). v ≤ top) m l (omega arith) (l .small)) (m .nodes) .here, initial-range (m .states) (m .initial) _)
+unfolding rowsOf verdictAt
+meaningInRange m l =
+    let labels = labels-all (λ (v : ℕ). v ≤ top) m l (omega arith) (l .small) in
+    (rows-related (λ (a b : ℕ). a ≤ top) small m (m .labels) labels (m .nodes) .here, verdict-related (λ (a b : ℕ). a ≤ top) small m (m .labels) labels)
 
 pub inRange : InRange
 inRange m before after v p =
@@ -34,6 +38,19 @@ inRange m before after v p =
 
 pub rowsAreTheMeaning : RowsAreTheMeaning
 rowsAreTheMeaning m before after v p = (answered m before after v p, written-value m before after v p)
+
+pub smallestInitial : SmallestInitial
+unfolding modelVerdict verdictAt
+smallestInitial m before after v p =
+    let S : ℕ = m .states in
+    let last : ℕ = lastOf m in
+    let row : List ℕ = getD (rowsOf m) last [] in
+    let fine = judge-fine m (length before) (number-none m before after v p) in
+    let least = smallest-picked (m .initial) row S (initial-some (m .initial) S (fine .starts .0) (fine .starts .1) (fine .starts .2)) in
+    let stands : (s : ℕ) → s < S → written m after last s ≡ at row s = λ s h. written-value m before after v p last s (record { node = omega (arith, fine .some); state = h }) in (
+      (least .0, record { state = least .1 .0; entry = least .1 .1 }, stands (least .0) (least .1 .0) ∙ least .2 ∙ sym (answered m before after v p)),
+      λ s h. omega (arith, answered m before after v p, stands s (h .state), smallest-bounds (m .initial) row S s (h .state) (h .entry)),
+    )
 
 pub beyondStays : BeyondStays
 beyondStays m before after v p = held-beyond m before (number-none m before after v p) after (rows-stand m before after v p)
@@ -69,10 +86,8 @@ settled-labels m m′ d i =
     same-count = ap labelCount (sym (d .kept))
 
 other-labels : (m : Model) (labels′ : List ℕ) → ((i : ℕ) → UnknownOrSame (at (m .labels) i) (at labels′ i)) → ((k s : ℕ) → Stays (verdictAt m k s) (verdictAt (withLabels m labels′) k s)) × Stays (modelVerdict m) (modelVerdict (withLabels m labels′))
-unfolding rowsOf verdictAt modelVerdict
-other-labels m labels′ h =
-    let rows = rows-related UnknownOrSame settling-kleene m labels′ h (m .nodes) in
-    (λ k s. rows .here k s .same, initial-settles (m .states) (m .initial) _ _ (rows .here (nodeCount (m .nodes) - 1)))
+unfolding rowsOf verdictAt
+other-labels m labels′ h = (λ k s. rows-related UnknownOrSame settling-kleene m labels′ h (m .nodes) .here k s .same, verdict-related UnknownOrSame settling-kleene m labels′ h .same)
 
 pub settling : Settling
 settling m m′ d = subst (λ (x : Model). ((k s : ℕ) → Stays (verdictAt m k s) (verdictAt x k s)) × Stays (modelVerdict m) (modelVerdict x)) (sym (d .kept)) (other-labels m (m′ .labels) (settled-labels m m′ d))
@@ -108,10 +123,10 @@ not-both v (inl z) e = omega arith
 not-both v (inr z) e = omega arith
 
 pub meaningKnown : MeaningKnown
-unfolding rowsOf verdictAt modelVerdict
+unfolding rowsOf verdictAt
 meaningKnown m l h =
-    let rows = rows-related Known known-kleene m (m .labels) (labels-all (λ (v : ℕ). (v ≡ 0) ⊎ (v ≡ 2)) m l (inl refl) (λ i k. no-one (at (m .labels) i) (l .small i k) (h i k))) (m .nodes) in
-    (λ k s e. not-both _ (rows .here k s) e, λ e. not-both _ (initial-known (m .states) (m .initial) _ (rows .here (nodeCount (m .nodes) - 1))) e)
+    let labels = labels-all (λ (v : ℕ). (v ≡ 0) ⊎ (v ≡ 2)) m l (inl refl) (λ i k. no-one (at (m .labels) i) (l .small i k) (h i k)) in
+    (λ k s e. not-both _ (rows-related Known known-kleene m (m .labels) labels (m .nodes) .here k s) e, λ e. not-both _ (verdict-related Known known-kleene m (m .labels) labels) e)
 
 pub noUnknown : NoUnknown
 noUnknown m before after v p h =

@@ -1,4 +1,4 @@
--- The ten starred nights as one list of cases under one statement, and beside them cases that a wrong reading of the rules would break.
+-- The eleven starred nights as one list of cases under one statement, and beside them cases that a wrong reading of the rules would break.
 use mathlib.Core.Path.{_≡_}
 use Prim.Native.Nat.{ℕ, _≤_}
 use mathlib.Core.List.{List, [], _∷_, _++_}
@@ -94,6 +94,10 @@ labelled labels es = asModel 2 2 labels (1 ∷ 0 ∷ []) es (1 ∷ 0 ∷ 0 ∷ 1
 abbrev pub diamond : ℕ → ℕ → ℕ → Question
 diamond left right level = asked 4 (0 ∷ 1 ∷ 0 ∷ 2 ∷ 1 ∷ 3 ∷ 2 ∷ 3 ∷ 3 ∷ 3 ∷ []) (2 ∷ left ∷ 2 ∷ 0 ∷ []) (0 ∷ 0 ∷ 0 ∷ right ∷ []) level
 
+-- case 13: two initial states in a ring, with these labels
+abbrev pub twoInitial : List ℕ → Model
+twoInitial labels = asModel 2 1 labels (1 ∷ 1 ∷ []) (0 ∷ 1 ∷ 1 ∷ 0 ∷ []) (1 ∷ 0 ∷ 0 ∷ [])
+
 -- the nights, by their numbers
 abbrev pub starred : List Case
 starred =
@@ -123,6 +127,9 @@ starred =
     ∷ path (diamond 2 2 2) 3 ((3 ∷ []) ∷ [])
     -- 10: right false everywhere: none
     ∷ path (diamond 2 0 2) 0 []
+    -- 13: one initial state false and one unknown: the model is false
+    ∷ model (twoInitial (0 ∷ 1 ∷ [])) 0
+    ∷ model (twoInitial (1 ∷ 0 ∷ [])) 0
     ∷ []
 
 -- every one of them holds
@@ -136,10 +143,6 @@ fork = asModel 3 1 (0 ∷ 2 ∷ 0 ∷ []) (1 ∷ 0 ∷ 0 ∷ []) (0 ∷ 1 ∷ 0 
 -- two states in a ring, two atoms: p0 true at 0 and unknown at 1, p1 false at both
 abbrev pub slanted : Model
 slanted = asModel 2 2 (2 ∷ 0 ∷ 1 ∷ 0 ∷ []) (1 ∷ 0 ∷ []) (0 ∷ 1 ∷ 1 ∷ 0 ∷ []) (1 ∷ 0 ∷ 0 ∷ 1 ∷ 1 ∷ 0 ∷ [])
-
--- two initial states in a ring, with these labels
-abbrev pub twoInitial : List ℕ → Model
-twoInitial labels = asModel 2 1 labels (1 ∷ 1 ∷ []) (0 ∷ 1 ∷ 1 ∷ 0 ∷ []) (1 ∷ 0 ∷ 0 ∷ [])
 
 -- one state, p true, and then one node more
 abbrev pub lastNode : List ℕ → Model

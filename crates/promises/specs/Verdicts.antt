@@ -1,7 +1,7 @@
 -- Demand 2. What `judge` writes is the three-valued meaning, and it survives every completion of the unknown labels. A model is accepted where
 -- the answer is `Verdicts v`; `held S after k s` is then the verdict that stands in the space for node k at state s.
 use mathlib.Core.Path.{_≡_}
-use Prim.Native.Nat.{ℕ, _<_, _≤_}
+use Prim.Native.Nat.{ℕ, _-_, _<_, _≤_}
 use mathlib.Core.List.{List}
 use mathlib.Core.Bool.{Bool}
 use mathlib.Core.Logic.{_⊎_, _↔_}
@@ -38,6 +38,20 @@ InRange = Accepting (λ m before after v. (v .0 ≤ top) × ((k s : ℕ) → The
 -- exactly as the three-valued meaning of CTL over partial Kripke structures defines it." Node k means `verdictAt` at s, the model `modelVerdict`.
 abbrev pub RowsAreTheMeaning : Type 0
 RowsAreTheMeaning = Accepting (λ m before after v. (v .0 ≡ modelVerdict m) × ((k s : ℕ) → There m k s → written m after k s ≡ verdictAt m k s))
+
+-- s is an initial state
+pub record Initial (m : Model) (s : ℕ) : Type 0 where
+  pub state : s < m .states
+  pub entry : at (m .initial) s ≡ 1
+
+-- the number of the last node
+abbrev pub lastOf : Model → ℕ
+lastOf m = nodeCount (m .nodes) - 1
+
+-- "The model's verdict is the smallest of the last node's values at the initial states": one of them has it, and none has less.
+abbrev pub SmallestInitial : Type 0
+SmallestInitial = Accepting (λ m before after v.
+    ((s : ℕ) × Initial m s × (written m after (lastOf m) s ≡ v .0)) × ((s : ℕ) → Initial m s → v .0 ≤ written m after (lastOf m) s))
 
 -- "Bytes beyond the last row stay."
 abbrev pub BeyondStays : Type 0

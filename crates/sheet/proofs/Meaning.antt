@@ -8,6 +8,7 @@ use native.Mathlib.Nat.{add-zero, zero-add}
 use lib.ListN.{length, getD}
 use lib.Dec.{leb}
 use borrow.Author.Tests.{lt-ltb, le-leb, ne-eqb}
+use Rattle.lists.specs.Entries.{at}
 use Rattle.lists.proofs.Tests.{and-both}
 use Rattle.values.specs.Values.{top}
 use Rattle.values.specs.Limits.{mostStates, mostNodes}
@@ -22,7 +23,7 @@ use Rattle.ctl.specs.declared.Judged.{Judged}
 use Rattle.ctl.specs.declared.Judged.the-variants as judged
 use Rattle.ctl.proofs.Held.{as-many, row-held}
 use Rattle.ctl.proofs.OneAnswer.{judging-keeps, judging-number, judging-rows}
-use Rattle.ctl.proofs.Unknowns.{initial-range}
+use Rattle.ctl.proofs.Related.{small, verdict-related}
 use Rattle.text.specs.Answers.{Outcome, textOutcome}
 use Rattle.text.specs.Answers.Outcome.{model, refusal}
 use Rattle.answer.specs.Lines.{answerLine, rowLine, modelLine}
@@ -32,10 +33,9 @@ use Rattle.sheet.specs.declared.Sheet.{Sheet}
 use Rattle.sheet.specs.Answers.{sheetOf, ModelJudged, Judges, TextJudged}
 use Rattle.sheet.specs.Output.{rowAt, rowsFrom, output, whole}
 
--- a model's verdict has its line
-model-shown : (m : Model) → modelDue (modelVerdict m) ≡ line (modelLine (modelVerdict m))
-unfolding modelVerdict
-model-shown m = shown (modelVerdict m) (initial-range (m .states) (m .initial) _)
+-- the verdict of a model with labels up to 2 has its line
+model-shown : (m : Model) → ((i : ℕ) → at (m .labels) i ≤ top) → modelDue (modelVerdict m) ≡ line (modelLine (modelVerdict m))
+model-shown m h = shown (modelVerdict m) (verdict-related (λ (a b : ℕ). a ≤ top) small m (m .labels) h)
   where
     shown : (v : ℕ) → v ≤ top → modelDue v ≡ line (modelLine v)
     shown v h = rw (le-leb v top h)
@@ -85,7 +85,7 @@ module _ (m : Model) (before after : List ℕ) (r : Sheet) (p : ModelJudged m be
       let stand = judging-rows m before after (p .answer) (p .judging) (judging-number m before after (p .answer) (p .judging) ∙ none-refused) in
       let each : (i : ℕ) → i < N → rowAt S after (0 + i) ≡ line (rowLine (getD (rowsOf m) i [])) = λ i h. ap (rowAt S after) (zero-add i) ∙ row-shown S after (getD (rowsOf m) i []) i few (omega (arith, fine .few)) (row-held m before none-refused after stand i h) in
       let shown = rows-shown S after 0 N (rowsOf m) (as-many m before none-refused after stand) each in
-      let model = model-shown m in
+      let model = model-shown m (fine .small) in
       ap (λ (x : Sheet). output x after) sheet-shown ∙ cc
 
 -- of a text that was read and judged without a refusal, the whole answer is that of the meaning's rows and verdict, a line each

@@ -2,7 +2,6 @@
 use mathlib.Core.Path.{sym, ap, _∙_}
 use Prim.Native.Nat.{ℕ}
 use mathlib.Core.List.{List}
-use native.Mathlib.Nat.{le-of-eq}
 use lib.ListN.{length}
 use borrow.Author.Needs.{needs}
 use Rattle.lists.specs.Rows.{fill}
@@ -12,7 +11,7 @@ use Rattle.model.specs.Model.{Model, asModel}
 use Rattle.ctl.specs.Inside.{RowsReady}
 use Rattle.ctl.specs.Rows.{storedRows}
 use Rattle.ctl.specs.declared.Judged.the-variants.{Verdicts}
-use Rattle.ctl.proofs.JudgeLaws.{examined-number, judged-refused, judged-rows, last-verdict, rows-of, rows-ready, structure}
+use Rattle.ctl.proofs.JudgeLaws.{examined-number, judged-refused, judged-rows, last-ready, last-verdict, rows-of, rows-ready, structure}
 use Rattle.model.proofs.Fine.{judge-fine}
 use Rattle.ctl.proofs.judge.Statement.{statement}
 use Rattle.ctl.proofs.judge.Tie as tie
@@ -39,7 +38,7 @@ put-rows-requires c κs = ready (c .before .before .before .before)
 model-verdict-requires : tie.Need-model-verdict-requires
 model-verdict-requires c κs =
     let st = c .before .before .before .before .before .before .before .before in
-    (last-verdict (lent st) _ _ _ (ready st) (c .before .before .before .put-rows .ensures) .0, fine st .some, le-of-eq (sym (fine st .initials)))
+    last-ready (lent st) _ _ _ (ready st) (c .before .before .before .put-rows .ensures) _ (fine st)
 
 same-length : tie.Need-same-length
 same-length c = search needs
@@ -49,7 +48,7 @@ returns-2 c =
     let st = c .before .before .before .before .before .before .before .before .before in
     let put = c .before .before .before .before .put-rows .ensures in
     let before : List ℕ = st .before .before .before .before .before .before .before .args .verdicts .now in
-    judged-rows (lent st) before _ _ (sym (examined-number (lent st) _ _ (st .before .examine .ensures)) ∙ st .if1 .left) (put ∙ ap (λ (rows : List (List ℕ)). fill (storedRows rows) before) (rows-of (lent st))) (ap Verdicts (c .model-verdict .ensures ∙ ap verdict (last-verdict (lent st) _ _ _ (ready st) put .1)))
+    judged-rows (lent st) before _ _ (sym (examined-number (lent st) _ _ (st .before .examine .ensures)) ∙ st .if1 .left) (put ∙ ap (λ (rows : List (List ℕ)). fill (storedRows rows) before) (rows-of (lent st))) (ap Verdicts (c .model-verdict .ensures ∙ ap verdict (last-verdict (lent st) _ _ _ (ready st) put)))
 
 pub judge-spec : {M : Type 1} → statement M
 judge-spec =
