@@ -28,12 +28,8 @@ pub fn judge_whole(model: &Model) -> Result<Judged, u16> {
     judge(model, model.nodes.len() / 3 * model.states)
 }
 
-/// 1 if any initial state has 1; otherwise 0 if any has 0; otherwise 2.
+/// The smallest of the values at the initial states, of which an accepted model has one.
 fn model_verdict(row: &[u8], initial: &[u8]) -> u8 {
-    let of_initial = |wanted: u8| row.iter().zip(initial).any(|(&value, &entry)| entry == 1 && value == wanted);
-    match (of_initial(1), of_initial(0)) {
-        (true, _) => 1,
-        (false, true) => 0,
-        (false, false) => 2,
-    }
+    let at_initial = row.iter().zip(initial).filter(|(_, &entry)| entry == 1);
+    *at_initial.map(|(value, _)| value).min().unwrap()
 }

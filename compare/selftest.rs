@@ -1,8 +1,8 @@
-//! The paper's worked cases 1 to 12 and a few checks of this program itself.
+//! The rules' worked cases 1 to 13 and a few checks of this program itself.
 
 use crate::answers;
 use crate::graphs;
-use crate::judge::{judge, judge_whole};
+use crate::judge::{judge, judge_whole, Judged};
 use crate::limits::model_case;
 use crate::model::{letters, Model};
 use crate::models;
@@ -18,6 +18,7 @@ pub fn run() -> ExitCode {
     case_11();
     case_12_counts();
     case_12_rest();
+    case_13();
     listing_limit();
     order_of_refusals();
     completions();
@@ -144,6 +145,21 @@ fn case_12_rest() {
     assert_eq!(answer_to(&"x".repeat(32_769)), "answer=18\n");
 }
 
+/// The model's verdict for the values FF FU FT, UF UU UT, TF TU TT of two states, both initial or one of them.
+fn case_13() {
+    let verdicts = |init: &str| -> String {
+        let pairs = "FUT".chars().flat_map(|one| "FUT".chars().map(move |other| (one, other)));
+        let text = |one: char, other: char| {
+            let labels = format!("label={one}\nlabel={other}\n");
+            format!("states=2\natoms=1\ninit={init}\n{labels}edges=2\nedge=0,1\nedge=1,0\nnodes=1\nnode=1,0,0\n")
+        };
+        pairs.map(|(one, other)| answer_to(&text(one, other)).trim_end().chars().last().unwrap()).collect()
+    };
+    assert_eq!(verdicts("11"), "FFFFUUFUT");
+    assert_eq!(verdicts("10"), "FFFUUUTTT");
+    assert_eq!(verdicts("01"), "FUTFUTFUT");
+}
+
 /// Exactly 200 paths end with "end", one more layer's choice with "more".
 fn listing_limit() {
     let listed = |widths: &[usize]| {
@@ -176,6 +192,11 @@ fn order_of_refusals() {
     assert_eq!(changed("node=2,0,0\n", "node=2,0,0\n\n"), "answer=19\n");
 }
 
+/// The values of all rows and the model's verdict.
+fn all_verdicts(judged: &Judged) -> Vec<u8> {
+    [judged.rows.concat(), vec![judged.verdict]].concat()
+}
+
 /// A verdict true or false is the verdict in every completion.
 fn completions() {
     for number in 0..300 {
@@ -188,9 +209,10 @@ fn completions() {
             for (bit, &place) in unknown.iter().enumerate() {
                 completed.labels[place] = 2 * (choice >> bit & 1) as u8;
             }
-            let rows = judge_whole(&completed).unwrap().rows.concat();
-            assert!(rows.iter().all(|&value| value != 1), "no unknown label, no unknown verdict");
-            let kept = judged.rows.concat().iter().zip(&rows).all(|(&value, &after)| value == 1 || value == after);
+            let after = judge_whole(&completed).unwrap();
+            let (was, is) = (all_verdicts(&judged), all_verdicts(&after));
+            assert!(is.iter().all(|&value| value != 1), "no unknown label, no unknown verdict");
+            let kept = was.iter().zip(&is).all(|(&value, &after)| value == 1 || value == after);
             assert!(kept, "a settled verdict changed in a completion of {model:?}");
         }
     }
