@@ -95,7 +95,7 @@ module _ (m : Model) where
 
     -- the last of the rows can be read, and some state is initial
     pub last-ready : (room : ℕ) → Fine m room → LastReady (m .states) n (m .initial) after
-    last-ready room f = record { rows = stand .0; last = f .some; listed = le-of-eq (sym (f .initials)); some = initial-some (m .initial) (m .states) (f .starts .0) (f .starts .1) (f .starts .2) }
+    last-ready room f = record { rows = stand .0; last = f .some; listed = le-of-eq (sym (f .initials)); some = initial-some (m .initial) (m .states) (f .starts .0) (f .starts .1) }
 
     -- what it gives over the initial states is the model's verdict
     pub last-verdict : overInitial (m .states) (m .initial) (lastRow (m .states) n after) ≡ modelVerdict m

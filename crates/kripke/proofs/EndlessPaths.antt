@@ -14,9 +14,9 @@ use Rattle.values.specs.Values.{choose}
 use Rattle.lists.specs.Choosing.{best}
 use Rattle.lists.specs.Entries.{at}
 use Rattle.kripke.proofs.Rest.{enough, never-above, settled}
-use Rattle.kripke.proofs.Steps.{until-one, until-step}
+use Rattle.kripke.proofs.Steps.{choose-picks, until-one, until-step}
 use Rattle.kripke.proofs.Successors.{edge-state, edge-succ, succ-edge}
-use Rattle.lists.proofs.Choosing.{best-bounds, best-picked}
+use Rattle.lists.proofs.Choosing.{best-picked, greatest-bounds, least-bounds}
 use Rattle.lists.proofs.Numbers.{lt-or-le, reach-max}
 
 -- a path begun one state earlier, and one whose first state is left off
@@ -64,10 +64,6 @@ module _ (S : ℕ) (es : List ℕ) (G : Graph S es) where
   follow-endless f go s h = record { begins = refl; joined = λ i. go (follow f s i) (follow-state f go s h i) }
 
   module _ (all : Bool) (L R : List ℕ) where
-    choose-picks : (all : Bool) (a b : ℕ) → (choose all a b ≡ a) ⊎ (choose all a b ≡ b)
-    choose-picks false a b = ⊎-elim (λ (l : a < b). inr (omega arith)) (λ (l : b ≤ a). inl (omega arith)) (lt-or-le a b)
-    choose-picks true a b = ⊎-elim (λ (l : a < b). inl (omega arith)) (λ (l : b ≤ a). inr (omega arith)) (lt-or-le a b)
-
     -- the successor that the choice takes its value from
     pub chosen : (f : ℕ → ℕ) (s : ℕ) → s < S → (t : ℕ) × Edge es s t × (best (choose all) (map f (succs es s)) ≡ f t)
     chosen f s h = let p = best-picked (choose all) f (choose-picks all) (succs es s) (G .out s h) in (p .0, succ-edge es s (p .0) (p .1), p .2)
@@ -115,7 +111,7 @@ module _ (S : ℕ) (es : List ℕ) (G : Graph S es) where
         let e : Edge es s (π 1) = subst (λ (x : ℕ). Edge es x (π 1)) (p .begins) (p .joined 0) in
         let v : w ≤ until false es L R (suc i) (π 1) = path-exists i (π 1) (behind π) (edge-state S es G s (π 1) e) (behind-endless es s π p) (record { right = q .right; left = λ j l. q .left (suc j) (omega arith) }) in
         let l : w ≤ at L s = subst (λ (x : ℕ). w ≤ at L x) (p .begins) (q .left 0 (omega arith)) in
-        let b : until false es L R (suc i) (π 1) ≤ best max (map (until false es L R (suc i)) (succs es s)) = best-bounds max (until false es L R (suc i)) (λ (x y : ℕ). y ≤ x) (λ a. omega arith) (λ a b c k. omega arith) (λ a b. omega arith) (succs es s) (π 1) (edge-succ es s (π 1) e) in
+        let b : until false es L R (suc i) (π 1) ≤ best max (map (until false es L R (suc i)) (succs es s)) = greatest-bounds (until false es L R (suc i)) (succs es s) (π 1) (edge-succ es s (π 1) e) in
         rw (until-step false S es G L R i s h) (omega arith)
 
     pub E-paths : (s : ℕ) → s < S → (w ≤ until false es L R S s) ↔ Reachable s
@@ -130,7 +126,7 @@ module _ (S : ℕ) (es : List ℕ) (G : Graph S es) where
     every-path zero s π h v p = (0, record { right = subst (λ (x : ℕ). w ≤ at R x) (sym (p .begins)) (rw (until-one true es L R s) at v); left = λ j l. absurd (omega arith) })
     every-path (suc n) s π h v p =
         let e : Edge es s (π 1) = subst (λ (x : ℕ). Edge es x (π 1)) (p .begins) (p .joined 0) in
-        let b : best min (map (until true es L R (suc n)) (succs es s)) ≤ until true es L R (suc n) (π 1) = best-bounds min (until true es L R (suc n)) (λ (x y : ℕ). x ≤ y) (λ a. omega arith) (λ a b c k. omega arith) (λ a b. omega arith) (succs es s) (π 1) (edge-succ es s (π 1) e) in
+        let b : best min (map (until true es L R (suc n)) (succs es s)) ≤ until true es L R (suc n) (π 1) = least-bounds (until true es L R (suc n)) (succs es s) (π 1) (edge-succ es s (π 1) e) in
         let u : w ≤ step (at L s) (at R s) (best min (map (until true es L R (suc n)) (succs es s))) = subst (λ (x : ℕ). w ≤ x) (until-step true S es G L R n s h) v in
         ⊎-elim
         (λ (r : w ≤ at R s). (0, record { right = subst (λ (x : ℕ). w ≤ at R x) (sym (p .begins)) r; left = λ j l. absurd (omega arith) }))

@@ -1,8 +1,9 @@
 -- The recurrence: an until over walks of one state more is one step back. One argument for E and A.
 use mathlib.Core.Path.{_≡_, refl, sym, ap, _∙_}
-use Prim.Native.Nat.{ℕ, suc, _<_, min, max}
+use Prim.Native.Nat.{ℕ, suc, _<_, _≤_, min, max}
 use mathlib.Core.List.{List, [], _∷_, map, map-map}
 use mathlib.Core.Bool.{Bool, true, false}
+use mathlib.Core.Logic.{_⊎_, inl, inr, ⊎-elim}
 use native.Mathlib.Omega.{arith}
 use lib.ListN.{length}
 use Rattle.kripke.specs.Transitions.{Graph, succs}
@@ -16,11 +17,17 @@ use Rattle.kripke.proofs.Successors.{succs-states}
 use Rattle.kripke.proofs.Walks.{some-walks}
 use Rattle.lists.proofs.Choosing.{best-each, best-map, most-cons}
 use Rattle.lists.proofs.Entries.{map-same, some-map}
+use Rattle.lists.proofs.Numbers.{lt-or-le}
 use Rattle.lists.proofs.Rows.{tab-cons, tab-map}
 
 pub choose-assoc : (all : Bool) (a b c : ℕ) → choose all (choose all a b) c ≡ choose all a (choose all b c)
 choose-assoc false a b c = omega arith
 choose-assoc true a b c = omega arith
+
+-- the choice is one of the two
+pub choose-picks : (all : Bool) (a b : ℕ) → (choose all a b ≡ a) ⊎ (choose all a b ≡ b)
+choose-picks false a b = ⊎-elim (λ (l : a < b). inr (omega arith)) (λ (l : b ≤ a). inl (omega arith)) (lt-or-le a b)
+choose-picks true a b = ⊎-elim (λ (l : a < b). inl (omega arith)) (λ (l : b ≤ a). inr (omega arith)) (lt-or-le a b)
 
 -- a step goes through the choice; min and max one after the other, for omega's sake
 pub step-choose : (all : Bool) (l r a b : ℕ) → step l r (choose all a b) ≡ choose all (step l r a) (step l r b)

@@ -1,6 +1,6 @@
 -- Laws of `best`: over joined lists, through a rule, against another list, and by its levels.
 use mathlib.Core.Path.{_≡_, refl, sym, ap, _∙_, subst}
-use Prim.Native.Nat.{ℕ, max}
+use Prim.Native.Nat.{ℕ, min, max, _≤_}
 use native.Mathlib.Omega.{arith}
 use mathlib.Core.List.{List, [], _∷_, _++_, map, map-append, append-nil, List·Memᴰ, List·Memᴰ·head, List·Memᴰ·tail}
 use mathlib.Core.Logic.{_⊎_, ⊎-elim}
@@ -84,3 +84,11 @@ module _ {A : Type 0} (op : ℕ → ℕ → ℕ) (f : A → ℕ) where
   best-related g Rel none keeps [] a = none
   best-related g Rel none keeps (x ∷ []) a = a .0
   best-related g Rel none keeps (x ∷ y ∷ ys) a = keeps (f x) (g x) (best op (map f (y ∷ ys))) (best op (map g (y ∷ ys))) (a .0) (best-related g Rel none keeps (y ∷ ys) (a .1))
+
+module _ {A : Type 0} (f : A → ℕ) where
+  -- the least is at most any, the greatest at least any
+  pub least-bounds : (xs : List A) (x : A) → List·Memᴰ x xs → best min (map f xs) ≤ f x
+  least-bounds = best-bounds min f (λ (a b : ℕ). a ≤ b) (λ a. omega arith) (λ a b c l. omega arith) (λ a b. omega arith)
+
+  pub greatest-bounds : (xs : List A) (x : A) → List·Memᴰ x xs → f x ≤ best max (map f xs)
+  greatest-bounds = best-bounds max f (λ (a b : ℕ). b ≤ a) (λ a. omega arith) (λ a b c l. omega arith) (λ a b. omega arith)

@@ -7,7 +7,7 @@ use native.Mathlib.Omega.{arith}
 use lib.ListN.{length}
 use lib.Dec.{eqb, ltb}
 use borrow.Author.Tests.{le-ltb, ltb-true, ltb-false, eqb-true, not-false}
-use Rattle.model.specs.Model.{Model, kindAt, leftAt, nodeCount, rightAt}
+use Rattle.model.specs.Model.{Initial, Model, kindAt, leftAt, nodeCount, rightAt}
 use Rattle.model.specs.Kinds.{Kind, bound, kindOf, uses}
 use Rattle.model.specs.Inside.{AtomFits, Fine}
 use Rattle.model.specs.Refusals.{badInitial, badNodes, badOperand, judgeRefusal, labelCauses}
@@ -34,11 +34,11 @@ same-length : (S : ℕ) (initial : List ℕ) → badInitial S initial ≡ false 
 unfolding badInitial
 same-length S initial e = eqb-true (length initial) S (not-false _ (or-neither (not (eqb (length initial) S)) _ e .0))
 
-some-initial : (S : ℕ) (initial : List ℕ) → badInitial S initial ≡ false → (s : ℕ) × (s < S) × (at initial s ≡ 1)
+some-initial : (S : ℕ) (initial : List ℕ) → badInitial S initial ≡ false → (s : ℕ) × Initial S initial s
 unfolding badInitial
 some-initial S initial e =
     let found = any-where (λ (s : ℕ). eqb (at initial s) 1) (length initial) (not-false _ (or-neither (someAbove initial 1) _ (or-neither (not (eqb (length initial) S)) _ e .1) .1)) in
-    (found .0, omega (arith, found .1, same-length S initial e), eqb-true (at initial (found .0)) 1 (found .2))
+    (found .0, record { state = omega (arith, found .1, same-length S initial e); entry = eqb-true (at initial (found .0)) 1 (found .2) })
 
 -- what a model has that is not refused
 pub judge-fine : (m : Model) (room : ℕ) → judgeRefusal m room ≡ 0 → Fine m room

@@ -11,7 +11,7 @@ use Rattle.values.specs.Limits.{mostStates, mostNodes}
 use Rattle.values.specs.Values.{top}
 use Rattle.values.specs.Rows.{rowBegin}
 use Rattle.kripke.specs.Refusals.{tableRefusal}
-use Rattle.model.specs.Model.{Model, nodeCount, kindAt, leftAt}
+use Rattle.model.specs.Model.{Initial, Model, nodeCount, kindAt, leftAt}
 use Rattle.model.specs.Kinds.{ATOM, kindOf}
 use Rattle.model.specs.Refusals.{badOperand, labelCauses, nodeCauses}
 
@@ -40,7 +40,7 @@ pub record Fine (m : Model) (room : ℕ) : Type 0 where
   pub labelled : length (m .labels) ≡ m .states * m .atoms
   pub small : (i : ℕ) → at (m .labels) i ≤ top
   pub initials : length (m .initial) ≡ m .states
-  pub starts : (s : ℕ) × (s < m .states) × (at (m .initial) s ≡ 1)
+  pub starts : (s : ℕ) × Initial (m .states) (m .initial) s
   pub some : 0 < nodeCount (m .nodes)
   pub few : nodeCount (m .nodes) ≤ mostNodes
   pub nodes : NodesFit (m .atoms) (m .nodes)

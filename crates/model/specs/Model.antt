@@ -1,5 +1,6 @@
 -- A model: a graph of states with labels, some of them unknown, and the formulas that are asked of it.
-use Prim.Native.Nat.{ℕ, _+_, _*_, _/_}
+use mathlib.Core.Path.{_≡_}
+use Prim.Native.Nat.{ℕ, _+_, _*_, _/_, _<_}
 use mathlib.Core.List.{List}
 use lib.ListN.{length}
 use Rattle.lists.specs.Entries.{at}
@@ -15,6 +16,11 @@ pub record Model : Type 0 where
 
 abbrev pub asModel : ℕ → ℕ → List ℕ → List ℕ → List ℕ → List ℕ → Model
 asModel S A labels initial es ns = record { states = S; atoms = A; labels = labels; initial = initial; transitions = es; nodes = ns }
+
+-- s is an initial state of S states with this initial list
+pub record Initial (S : ℕ) (initial : List ℕ) (s : ℕ) : Type 0 where
+  pub state : s < S
+  pub entry : at initial s ≡ 1
 
 -- how many nodes there are, and the numbers of node i
 abbrev pub nodeCount : List ℕ → ℕ

@@ -10,7 +10,7 @@ use native.Mathlib.Nat.{le-of-eq, le-trans}
 use lib.ListN.{length}
 use Rattle.lists.specs.Choosing.{best}
 use Rattle.lists.specs.Entries.{at}
-use Rattle.lists.proofs.Choosing.{best-bounds}
+use Rattle.lists.proofs.Choosing.{greatest-bounds}
 use Rattle.lists.proofs.Numbers.{reach-max}
 use Rattle.lists.proofs.Rows.{tab-at}
 use Rattle.values.specs.Rows.{rowValues, valueAt}
@@ -35,7 +35,7 @@ module _ (S : ℕ) (es : List ℕ) (G : Graph S es) (L R : List ℕ) (w : ℕ) w
   from-until s [] f = rw (until-one false es L R s) (f .1)
   from-until s (t ∷ p) f =
       let later : w ≤ E (suc (length p)) t = from-until t p (f .2) in
-      let b : E (suc (length p)) t ≤ best max (map (E (suc (length p))) (succs es s)) = best-bounds max (E (suc (length p))) (λ (x y : ℕ). y ≤ x) (λ a. omega arith) (λ a b c k. omega arith) (λ a b. omega arith) (succs es s) t (edge-succ es s t (f .1)) in
+      let b : E (suc (length p)) t ≤ best max (map (E (suc (length p))) (succs es s)) = greatest-bounds (E (suc (length p))) (succs es s) t (edge-succ es s t (f .1)) in
       let l : w ≤ at L s = f .0 .1 in
       rw (until-step false S es G L R (length p) s (f .0 .0)) (omega arith)
 

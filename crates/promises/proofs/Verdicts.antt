@@ -1,6 +1,6 @@
 -- Demand 2: the rows are the meaning, and one relational argument for each of range, settling and no-unknown.
 use mathlib.Core.Path.{_≡_, refl, sym, ap, _∙_, subst, subst₂}
-use Prim.Native.Nat.{ℕ, zero, suc, _-_, _≤_, _<_}
+use Prim.Native.Nat.{ℕ, zero, suc, _≤_, _<_}
 use mathlib.Core.List.{List, []}
 use mathlib.Core.Logic.{_⊎_, inl, inr, ⊎-elim}
 use native.Mathlib.Omega.{arith}
@@ -46,10 +46,10 @@ smallestInitial m before after v p =
     let last : ℕ = lastOf m in
     let row : List ℕ = getD (rowsOf m) last [] in
     let fine = judge-fine m (length before) (number-none m before after v p) in
-    let least = smallest-picked (m .initial) row S (initial-some (m .initial) S (fine .starts .0) (fine .starts .1) (fine .starts .2)) in
+    let least = smallest-picked (m .initial) row S (initial-some (m .initial) S (fine .starts .0) (fine .starts .1)) in
     let stands : (s : ℕ) → s < S → written m after last s ≡ at row s = λ s h. written-value m before after v p last s (record { node = omega (arith, fine .some); state = h }) in (
-      (least .0, record { state = least .1 .0; entry = least .1 .1 }, stands (least .0) (least .1 .0) ∙ least .2 ∙ sym (answered m before after v p)),
-      λ s h. omega (arith, answered m before after v p, stands s (h .state), smallest-bounds (m .initial) row S s (h .state) (h .entry)),
+      (least .0, least .1, stands (least .0) (least .1 .state) ∙ least .2 ∙ sym (answered m before after v p)),
+      λ s h. omega (arith, answered m before after v p, stands s (h .state), smallest-bounds (m .initial) row S s h),
     )
 
 pub beyondStays : BeyondStays

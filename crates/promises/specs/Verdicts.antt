@@ -11,7 +11,7 @@ use Rattle.values.specs.Values.{top}
 use Rattle.values.specs.Rows.{rowBegin, held}
 use Rattle.values.specs.declared.verdict.Verdict.{Verdict}
 use Rattle.kripke.specs.Transitions.{Edge, Graph}
-use Rattle.model.specs.Model.{Model, nodeCount, kindAt, leftAt}
+use Rattle.model.specs.Model.{Initial, Model, nodeCount, kindAt, leftAt}
 use Rattle.model.specs.Labels.{Labels, Settled, Completion, completed, labelCount}
 use Rattle.ctl.specs.Rows.{verdictAt, modelVerdict}
 use Rattle.ctl.specs.Answers.{Judging}
@@ -39,11 +39,6 @@ InRange = Accepting (λ m before after v. (v .0 ≤ top) × ((k s : ℕ) → The
 abbrev pub RowsAreTheMeaning : Type 0
 RowsAreTheMeaning = Accepting (λ m before after v. (v .0 ≡ modelVerdict m) × ((k s : ℕ) → There m k s → written m after k s ≡ verdictAt m k s))
 
--- s is an initial state
-pub record Initial (m : Model) (s : ℕ) : Type 0 where
-  pub state : s < m .states
-  pub entry : at (m .initial) s ≡ 1
-
 -- the number of the last node
 abbrev pub lastOf : Model → ℕ
 lastOf m = nodeCount (m .nodes) - 1
@@ -51,7 +46,8 @@ lastOf m = nodeCount (m .nodes) - 1
 -- "The model's verdict is the smallest of the last node's values at the initial states": one of them has it, and none has less.
 abbrev pub SmallestInitial : Type 0
 SmallestInitial = Accepting (λ m before after v.
-    ((s : ℕ) × Initial m s × (written m after (lastOf m) s ≡ v .0)) × ((s : ℕ) → Initial m s → v .0 ≤ written m after (lastOf m) s))
+    ((s : ℕ) × Initial (m .states) (m .initial) s × (written m after (lastOf m) s ≡ v .0))
+    × ((s : ℕ) → Initial (m .states) (m .initial) s → v .0 ≤ written m after (lastOf m) s))
 
 -- "Bytes beyond the last row stay."
 abbrev pub BeyondStays : Type 0
