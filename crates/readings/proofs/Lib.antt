@@ -1,0 +1,5 @@
+pub mod FloatOrder
+pub mod Orders
+pub mod Gates
+pub mod Turns
+pub mod Bits
