@@ -71,3 +71,8 @@ range-one (negsuc n) (negsuc m) a b a′ b′ c = ap negsuc (omega (arith, leb-t
 
 pub delay-one : (l e : ℕ) (d d′ : ℤ) → Delay l e d → Delay l e d′ → d ≡ d′
 delay-one l e d d′ p q = range-one d d′ (p .notLess) (p .notMore) (q .notLess) (q .notMore) (p .congruent ∙ sym (q .congruent))
+
+-- a delay fits 32 bits
+pub delay-small : (l e : ℕ) (d : ℤ) → Delay l e d → mag d < 2147483648
+delay-small l e (pos n) p = omega (arith, leb-true n 2147483647 (p .notMore))
+delay-small l e (negsuc n) p = omega (arith, leb-true n 2147483647 (p .notLess))

@@ -11,9 +11,9 @@ ghost use Rattle.readings.specs.Delays.{Delay};
 // How far a counter goes before it begins again.
 const TURN: i64 = 4294967296;
 
-const LEAST_DELAY: i64 = -2147483648;
+pub const LEAST_DELAY: i64 = -2147483648;
 
-const GREATEST_DELAY: i64 = 2147483647;
+pub const GREATEST_DELAY: i64 = 2147483647;
 
 pub enum DelayGate {
     AtLeast(i32),

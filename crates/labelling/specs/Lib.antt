@@ -1,0 +1,4 @@
+pub mod Keys
+pub mod Lines
+pub mod Answers
+pub mod Inside
