@@ -2,7 +2,7 @@
 
 use crate::model::{joined, letters, successors};
 use crate::question::{Asking, Question};
-use crate::{formula, judge, labelling, paths, question, reader, refusals};
+use crate::{formula, judge, labelling, paths, question, reader, readings, refusals};
 
 pub const MOST_PATHS: usize = 200;
 
@@ -10,7 +10,8 @@ pub fn answer(case: &[u8]) -> String {
     if let Some(text) = case.strip_prefix(b"M\n") {
         return of_model(text);
     }
-    formula::answering::answer(case).unwrap_or_else(|| {
+    let of_others = formula::answering::answer(case).or_else(|| readings::answering::answer(case));
+    of_others.unwrap_or_else(|| {
         let (question, asking) = question::read(case);
         of_question(&question, &asking)
     })

@@ -17,13 +17,14 @@ use crate::limits::{self, model_case};
 use crate::model::{text_of, Model};
 use crate::question::{Asking, Question};
 use crate::random::Random;
-use crate::{askings, breaks, formula, judge, misasked, models, question, reader, spoiled};
+use crate::{askings, breaks, formula, judge, misasked, models, question, reader, readings, spoiled};
 
-/// A fresh case: every third one is about formulas, the others are of the mixture above.
+/// A fresh case: of every four two are of the mixture above, one is about formulas, one about measurements.
 pub fn mixed(seed: u64, number: usize) -> Vec<u8> {
-    match number % 3 {
-        2 => formula::mixture::case(seed, number / 3),
-        _ => case(seed, number - (number + 1) / 3),
+    match number % 4 {
+        2 => formula::mixture::case(seed, number / 4),
+        3 => readings::mixture::case(seed, number / 4),
+        place => case(seed, number / 4 * 2 + place),
     }
 }
 

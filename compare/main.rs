@@ -18,6 +18,7 @@ mod paths;
 mod question;
 mod random;
 mod reader;
+mod readings;
 mod refusals;
 mod selftest;
 mod spoiled;
@@ -29,8 +30,9 @@ use std::process::ExitCode;
 
 const USAGE: &str = "compare make COUNT SEED INPUT_FILE ANSWER_FILE
     writes COUNT fresh cases and their answers
-compare store COUNT FORMULAS SEED INPUT_FILE ANSWER_FILE [MODEL_FILE ..]
-    writes the model files' cases, COUNT of models and paths, the listed ones of formulas, FORMULAS random ones
+compare store COUNT FORMULAS READINGS SEED INPUT_FILE ANSWER_FILE [MODEL_FILE ..]
+    writes the model files' cases, COUNT of models and paths, the listed ones of formulas, FORMULAS random ones,
+    the listed ones of measurements, READINGS random ones
 compare explain INPUT_FILE N
     prints case N (from 0) and its expected answer
 compare differ INPUT_FILE EXPECTED GOT
@@ -47,8 +49,8 @@ fn main() -> ExitCode {
     let words: Vec<&str> = words.iter().map(String::as_str).collect();
     let done = match words[..] {
         ["make", count, seed, input, answers] => make(count, seed, input, answers),
-        ["store", count, formulas, seed, input, answers, ref models @ ..] => {
-            store([count, formulas], seed, [input, answers], models)
+        ["store", count, formulas, readings, seed, input, answers, ref models @ ..] => {
+            store([count, formulas, readings], seed, [input, answers], models)
         }
         ["explain", input, number] => explain(input, number),
         ["differ", input, expected, got] => differ(input, expected, got),
@@ -81,8 +83,9 @@ fn make(count: &str, seed: &str, input: &str, answers: &str) -> Result<ExitCode,
 }
 
 /// What is added comes behind what was there, so that no stored case moves.
-fn store(counts: [&str; 2], seed: &str, files: [&str; 2], models: &[&str]) -> Result<ExitCode, String> {
-    let (count, formulas, seed): (usize, usize, u64) = (number(counts[0])?, number(counts[1])?, number(seed)?);
+fn store(counts: [&str; 3], seed: &str, files: [&str; 2], models: &[&str]) -> Result<ExitCode, String> {
+    let (count, formulas): (usize, usize) = (number(counts[0])?, number(counts[1])?);
+    let (readings, seed): (usize, u64) = (number(counts[2])?, number(seed)?);
     let mut cases = Vec::new();
     for file in models {
         let text = load(file)?;
@@ -94,6 +97,8 @@ fn store(counts: [&str; 2], seed: &str, files: [&str; 2], models: &[&str]) -> Re
     cases.extend((0..count).map(|place| generate::case(seed, place)));
     cases.extend(formula::listed::cases());
     cases.extend((0..formulas).map(|place| formula::mixture::case(seed, place)));
+    cases.extend(readings::listed::cases());
+    cases.extend((0..readings).map(|place| readings::mixture::case(seed, place)));
     write_cases(&cases, files[0], files[1])
 }
 

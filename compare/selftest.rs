@@ -8,7 +8,7 @@ use crate::model::{letters, Model};
 use crate::models;
 use crate::question::{self, Asking, Question};
 use crate::random::Random;
-use crate::{formula, frames, generate, reader};
+use crate::{formula, frames, generate, reader, readings};
 use std::process::ExitCode;
 
 pub fn run() -> ExitCode {
@@ -24,6 +24,7 @@ pub fn run() -> ExitCode {
     completions();
     framing();
     formula::selftest();
+    readings::selftest();
     println!("selftest ok");
     ExitCode::SUCCESS
 }

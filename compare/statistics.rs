@@ -1,6 +1,6 @@
 //! What a run of cases contains, counted.
 
-use crate::{answers, frames, generate, judge, reader};
+use crate::{answers, frames, generate, judge, reader, readings};
 use std::collections::BTreeMap;
 
 #[derive(Default)]
@@ -30,7 +30,7 @@ pub fn print(count: usize, seed: u64) {
         line(&counts.last_rows)
     );
     println!("accepted models judged by listing every walk too: {}", counts.walked);
-    for kind in ['M', 'F', 'N', 'C', 'R', 'P', 'K', 'Q'] {
+    for kind in ['M', 'F', 'N', 'C', 'R', 'P', 'K', 'Q', 'V', 'D', 'L'] {
         let of_kind: BTreeMap<String, usize> =
             counts.answers.iter().filter(|((k, _), _)| *k == kind).map(|((_, a), n)| (a.clone(), *n)).collect();
         println!("answers to {kind}: {}", line(&of_kind));
@@ -46,7 +46,11 @@ impl Counts {
     fn add(&mut self, case: &[u8], answer: &str) {
         let kind = case[0] as char;
         *self.cases.entry(kind.to_string()).or_default() += 1;
-        *self.answers.entry((kind, name(kind, answer))).or_default() += 1;
+        let names = match kind {
+            'V' | 'D' | 'L' => readings::answering::names(case, answer),
+            _ => vec![name(kind, answer)],
+        };
+        names.into_iter().for_each(|name| *self.answers.entry((kind, name)).or_default() += 1);
         if !['M', 'Q'].contains(&kind) || !answer.starts_with("answer=0\n") {
             return;
         }

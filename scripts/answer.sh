@@ -1,4 +1,4 @@
-# How ./ask, ./desk and ./witness run their program and tell its answer.
+# How ./ask, ./desk, ./witness and ./label run their program and tell its answer.
 # shellcheck shell=sh disable=SC2154,SC2034 # names that another of these files sets or reads
 
 # Programs are for x86-64; on another processor the kit has an emulator. They get no environment: it could only mislead loader and emulator.
@@ -8,13 +8,15 @@ start() { # ARGUMENTS
     exec env -i ${emulator:+"$emulator"} "$tools/lib/ld-linux-x86-64.so.2" --library-path "$tools/lib" "$root/target/bin/$name" "$@"
 }
 
-# The answer passes on as it comes; its first line is kept in $first and its last in $last. Nothing counts as answered that wasn't written.
-run() { # ARGUMENTS
+# The answer passes on as it comes, through an awk that keeps something of it in $own/lines. Nothing counts as answered that wasn't written.
+pass() { # AWK-RULES ARGUMENTS
+    rules=$1
+    shift
     mkfifo "$own/raw" "$own/passed" || no_room
     starting=yes
     start "$@" <"$model" >"$own/raw" &
     program=$!
-    kept=$own/lines awk '{ print; last = $0 } NR == 1 { first = $0 } END { print first "\n" last >ENVIRON["kept"] }' <"$own/raw" >"$own/passed" &
+    kept=$own/lines awk "{ print } $rules" <"$own/raw" >"$own/passed" &
     passer=$!
     cat <"$own/passed" &
     writer=$!
@@ -33,6 +35,12 @@ run() { # ARGUMENTS
     [ "$written" -eq 0 ] || die 3 "the answer can't be written"
     [ "$ran" -eq 0 ] || die 3 "the program failed with status $ran"
     { [ "$passed" -eq 0 ] && [ -s "$own/lines" ]; } || no_room
+}
+
+# The answer's first line is kept in $first and its last in $last.
+run() { # ARGUMENTS
+    # shellcheck disable=SC2016 # a $ of awk's
+    pass '{ last = $0 } NR == 1 { first = $0 } END { print first "\n" last >ENVIRON["kept"] }' "$@"
     { IFS= read -r first && IFS= read -r last; } <"$own/lines"
     [ -n "$first" ] || die 3 "the program wrote no answer"
 }

@@ -1,6 +1,6 @@
-# How ./ask, ./desk and ./witness come to their programs: all are proved and built in one go, by one call at a time.
+# How ./ask, ./desk, ./witness and ./label come to their programs: all are proved and built in one go, by one call at a time.
 # shellcheck shell=sh disable=SC2154,SC2034,SC2086 # names that another of these files sets or reads; $programs is a list of words
-programs='ask desk witness'
+programs='ask desk witness label'
 record=$root/target/built
 
 find_kit() {
@@ -83,7 +83,7 @@ build() {
     if [ -f "$record" ]; then
         say "the sources or the programs aren't those of the last build: proving and building what has changed"
     else
-        say "proving and building ./ask, ./desk and ./witness, which takes a few minutes the first time"
+        say "proving and building ./ask, ./desk, ./witness and ./label, which takes a few minutes the first time"
     fi
     { mkdir -p "$root/target" 2>/dev/null && [ -w "$root/target" ]; } || die 3 "$root/target can't be written"
     needed=$(crates_needed)

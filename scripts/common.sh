@@ -1,4 +1,5 @@
-# What ./ask, ./desk and ./witness share: how they speak and end, and how a model is taken in. They read it after setting `name` and `root`.
+# What ./ask, ./desk, ./witness and ./label share: how they speak and end, and how their input is taken in. They read it after setting `name`
+# and `root`.
 # shellcheck shell=sh disable=SC2154,SC2034,SC3013 # names that another of these files sets or reads; -ef, which every sh of Linux has
 LC_ALL=C
 export LC_ALL
@@ -93,8 +94,10 @@ make_scratch() {
 
 no_room() { die 3 "the temporary folder $scratch can't be used, or has no room"; }
 
-# No text that is judged comes near to this many bytes; what is longer is cut here, and the program refuses it for its length.
-most_kept=1048576
+# What is taken in, and how it is copied. No model that is judged comes near to this many bytes; what is longer is cut here, and the program
+# refuses it for its length.
+taken='the model' most_kept=1048576
+copy() { exec head -c "$most_kept"; }
 
 can_be_read() { # FILE
     case $1 in
@@ -103,7 +106,7 @@ can_be_read() { # FILE
     esac
 }
 
-# The model is copied to $model, so that what is judged and what is explained are one text. Reading goes on beside the script, which a
+# The input is copied to $model, so that what is judged and what is explained are one text. Reading goes on beside the script, which a
 # signal could not end otherwise; a process beside it has an empty standard input, so the caller's own goes by another number.
 take_in() { # FILE
     can_be_read "$1"
@@ -111,14 +114,14 @@ take_in() { # FILE
     from=$1 starting=yes
     if [ "$1" = - ]; then
         from='standard input'
-        [ ! -t 0 ] || say "the model is read from the terminal; Ctrl-D on a line of its own ends it"
+        [ ! -t 0 ] || say "reading $taken from the terminal; Ctrl-D on a line of its own ends it"
         exec 4<&0
-        head -c "$most_kept" 2>"$own/said" <&4 >"$model" &
+        copy 2>"$own/said" <&4 >"$model" &
     elif [ "$1" -ef /dev/stdin ]; then
         exec 4<&0
-        (exec head -c "$most_kept" <"$1") 2>"$own/said" <&4 >"$model" &
+        (copy <"$1") 2>"$own/said" <&4 >"$model" &
     else
-        (exec head -c "$most_kept" <"$1") 2>"$own/said" >"$model" &
+        (copy <"$1") 2>"$own/said" >"$model" &
     fi
     at_work=$!
     started
@@ -127,7 +130,7 @@ take_in() { # FILE
     at_work=''
     exec 4<&-
     [ "$got" -ne 0 ] || return 0
-    case $(cat "$own/said") in '' | 'head: '*writ*) no_room ;; esac
+    case $(cat "$own/said") in '' | 'head: '*writ* | 'cat: '*writ*) no_room ;; esac
     die 2 "$from can't be read: $(sed -n '$s/.*: //p' "$own/said")"
 }
 

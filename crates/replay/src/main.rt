@@ -9,10 +9,14 @@
 //   P   a room and a list of nodes: the text that is printed into so many bytes
 //   K   the same with a node behind the room: its part alone
 //   Q   a formula on a line and a model's text: the formula's row and the model's verdict
+//   V   a voltage gate and a reading, by their bits: its label
+//   D   a delay gate and two counters, by their bits: the delay and its label
+//   L   lines of the label desk: a label for each
 //
 // Behind each answer stands a line with a dot.
 mod asking;
 mod formulas;
+mod measures;
 mod numbers;
 mod telling;
 
@@ -51,6 +55,9 @@ fn answer(body: &[u8]) {
         b'R' => formulas::read(body),
         b'P' | b'K' => formulas::print(body, kind),
         b'Q' => formulas::judge(body),
+        b'V' => measures::voltage(body),
+        b'D' => measures::ticks(body),
+        b'L' => measures::lines(body),
         _ => asking::question(body, kind),
     }
     io::write_all(STDOUT_FILENO, b".\n");

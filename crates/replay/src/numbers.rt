@@ -31,7 +31,7 @@ fn with_digit(number: u16, byte: u8) -> u16 {
 }
 
 // Where the line from a place on ends.
-fn line_end(body: &[u8], at: usize) -> usize
+pub(crate) fn line_end(body: &[u8], at: usize) -> usize
     requires { ⌜ at ≤ length (now body) ⌝ }
     ensures { λ r. ⌜ (at ≤ r) × (r ≤ length (now (body .entry))) ⌝ }
 {

@@ -1,4 +1,4 @@
-// Answers of the path calls and of the formula calls, written out.
+// Answers of the path calls, of the formula calls and of the label calls, written out.
 use crate::asking::bytes;
 use answer::MOST_LINE;
 use answer::MOST_PATH_LINE;
@@ -8,6 +8,7 @@ use libc::STDOUT_FILENO;
 use listing::Call;
 use listing::Told;
 use paths::CheckAnswer;
+use readings::Labelled;
 
 // How many paths are told before the rest is left at `more`.
 pub(crate) const MOST_TOLD: usize = 200;
@@ -27,6 +28,28 @@ pub(crate) fn number(number: u8) {
     let mut line = [0u8; MOST_LINE];
     let written = answer::write_number(number, &mut line);
     put(written, &line);
+}
+
+// A label's letter, or the number of its refusal.
+pub(crate) fn labelled(answer: Labelled) {
+    match answer {
+        Labelled::Is(label) => letter(label.number()),
+        Labelled::Refused(refusal) => number(refusal),
+    }
+}
+
+fn letter(value: u8) {
+    match value {
+        0 => {
+            io::write_all(STDOUT_FILENO, b"F\n");
+        }
+        1 => {
+            io::write_all(STDOUT_FILENO, b"U\n");
+        }
+        _ => {
+            io::write_all(STDOUT_FILENO, b"T\n");
+        }
+    }
 }
 
 // Line after line, so many at the most: path after path, and how the listing ends.
