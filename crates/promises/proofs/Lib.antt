@@ -7,5 +7,7 @@ pub mod Formulas
 pub mod Asking
 pub mod Text
 pub mod Paths
+pub mod Labels
+pub mod LineNights
 pub mod Nights
 pub mod AskedNight

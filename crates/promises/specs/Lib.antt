@@ -6,4 +6,5 @@ pub mod Formulas
 pub mod Asking
 pub mod Text
 pub mod Paths
+pub mod Labels
 pub mod Nights

@@ -87,7 +87,7 @@ finite-back s m e t n d h =
     (omega (arith, plus-mul s (m * up e) (down d), minus-mul t (n * up d) (down e), plus-mul t (n * up d) (down e), minus-mul s (m * up e) (down d)))
 
 -- a NaN is at most nothing, and nothing is at most a NaN
-above-nan : (x : Float) → le x nan ≡ false
+pub above-nan : (x : Float) → le x nan ≡ false
 unfolding le
 above-nan nan = refl
 above-nan (inf true) = refl
@@ -151,3 +151,11 @@ le-second x nan p = absurd (true≢false (sym p ∙ above-nan x))
 le-second x (inf true) p = refl
 le-second x (inf false) p = refl
 le-second x (fin t n d) p = finite-back t n d t n d (omega arith)
+
+-- only a NaN isn't at most itself
+pub not-itself : (x : Float) → le x x ≡ false → x ≡ nan
+unfolding le
+not-itself nan e = refl
+not-itself (inf true) e = absurd (true≢false e)
+not-itself (inf false) e = absurd (true≢false e)
+not-itself (fin s m d) e = absurd (true≢false (sym (finite-back s m d s m d (omega arith)) ∙ e))

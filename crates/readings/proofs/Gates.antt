@@ -1,6 +1,7 @@
 -- What the label of a measurement comes to, over any comparison that is an order: by the tests of its ends, limit by limit.
 use mathlib.Core.Path.{_≡_, refl, sym, ap, _∙_}
-use Prim.Native.Nat.{ℕ, min}
+use Prim.Native.Nat.{ℕ, min, _≤_}
+use native.Mathlib.Omega.{arith}
 use mathlib.Core.Bool.{Bool, true, false, not, cond, _&&_, _||_, and-true, true≢false}
 use Rattle.readings.specs.Gates.{Limits, atLeast, atMost, between, notBelow, notAbove, inside, whollyInside, whollyOutside, threeWay, measured}
 use Rattle.readings.proofs.Orders.{Order}
@@ -63,7 +64,7 @@ both-limits le o a b l g = by-order (le l g) refl
 
 -- a measurement of one value: it lies in the gate or outside
 module _ {A : Type 0} (le : A → A → Bool) (v : A) (itself : le v v ≡ true) where
-  single : (gate : Limits A) → measured le gate v v ≡ cond (inside le gate v) 2 0
+  pub single : (gate : Limits A) → measured le gate v v ≡ cond (inside le gate v) 2 0
   unfolding measured threeWay whollyInside whollyOutside inside
   single gate = rw itself (by-tests (notBelow le gate v) (notAbove le gate v))
     where
@@ -79,3 +80,14 @@ module _ {A : Type 0} (le : A → A → Bool) (v : A) (itself : le v v ≡ true)
   pub single-most : (x : A) → measured le (atMost x) v v ≡ cond (le v x) 2 0
   unfolding inside notBelow notAbove
   single-most x = single (atMost x)
+
+-- a label is at most true
+pub measured-small : {A : Type 0} (le : A → A → Bool) (gate : Limits A) (l g : A) → measured le gate l g ≤ 2
+unfolding measured threeWay
+measured-small le gate l g = by-tests (le l g) (whollyInside le gate l g) (whollyOutside le gate l g)
+  where
+    by-tests : (w i u : Bool) → cond w (cond i 2 (cond u 0 1)) 1 ≤ 2
+    by-tests true true u = omega arith
+    by-tests true false true = omega arith
+    by-tests true false false = omega arith
+    by-tests false i u = omega arith

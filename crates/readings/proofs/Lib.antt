@@ -3,3 +3,4 @@ pub mod Orders
 pub mod Gates
 pub mod Turns
 pub mod Bits
+pub mod Meaning

@@ -76,3 +76,15 @@ delay-one l e d d′ p q = range-one d d′ (p .notLess) (p .notMore) (q .notLes
 pub delay-small : (l e : ℕ) (d : ℤ) → Delay l e d → mag d < 2147483648
 delay-small l e (pos n) p = omega (arith, leb-true n 2147483647 (p .notMore))
 delay-small l e (negsuc n) p = omega (arith, leb-true n 2147483647 (p .notLess))
+
+-- every two counters have a delay: their difference, or a turn more or less
+pub delay-there : (l e : ℕ) → l < turn → e < turn → (d : ℤ) × Delay l e d
+delay-there l e hl he = by-tests (ltZ apart leastDelay) refl (ltZ greatestDelay apart) refl
+  where
+    apart : ℤ
+    apart = pos l -ℤ pos e
+
+    by-tests : (s : Bool) → ltZ apart leastDelay ≡ s → (t : Bool) → ltZ greatestDelay apart ≡ t → (d : ℤ) × Delay l e d
+    by-tests true p t q = (apart +ℤ pos turn, delay-of l e (apart +ℤ pos turn) (grown-small apart (apart-small l e hl he) p) (turn-more apart))
+    by-tests false p true q = (apart -ℤ pos turn, delay-of l e (apart -ℤ pos turn) (shrunk-small apart (apart-small l e hl he) q) (turn-less apart))
+    by-tests false p false q = (apart, delay-of l e apart (between-small apart p q) refl)
