@@ -11,11 +11,13 @@
 //   a to f   the same of the text that a code of layers stands for
 //   P S      a list of nodes printed; the same, the text space one short; K U a part of it; x y as many nots as there may be, one more
 //   h        a formula on a line and a model's text, judged with the model's room; g i with line feeds up to the limit, one beyond it
+//   q        a line of the label desk, labelled
 //   m        no case: the code of a model for the cases behind it to change, in place of the base
 use crate::asking;
 use crate::base;
 use crate::formulas;
 use crate::judging;
+use crate::labels;
 use crate::largest;
 use crate::lines;
 use crate::lines::CHECK;
@@ -64,6 +66,7 @@ fn asked(letter: u8, name: &[u8], model: &[u8], code: &[u8]) {
         b'L' => largest::largest(JUDGE, name),
         b'o' => largest::most_atoms(name),
         b'k' => lines::limits(),
+        b'q' => labels::asked(name, code),
         b'p' => largest::longest(name),
         b'a'..=b'f' | b'r' | b's' | b'x' | b'y' => formulas::asked(letter, name, code),
         b'n' | b'j' | b'F' | b'N' | b'C' | b'*' | b'P' | b'S' | b'K' | b'U' => {

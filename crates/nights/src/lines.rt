@@ -25,6 +25,8 @@ pub(crate) const PRINT_PART: usize = 9;
 
 pub(crate) const JUDGE_FORMULA: usize = 10;
 
+pub(crate) const LABEL: usize = 11;
+
 // What is lent, whole or behind what was written.
 pub(crate) const REST: usize = 0;
 
@@ -72,10 +74,10 @@ pub(crate) fn limits() {
 // Which call a line is of, and its case.
 pub(crate) fn case(call: usize, name: &[u8]) {
     let words = b"read, |text, |first, |next, |check, |judge, ||\
-        read formula, |print formula, |print part, |judge formula, |: |";
+        read formula, |print formula, |print part, |judge formula, |label, |: |";
     say(words, call);
     write(name);
-    say(words, 11);
+    say(words, 12);
 }
 
 pub(crate) fn answer(number: u8) {

@@ -4,13 +4,14 @@
 //   base       the model and the path question that the cases change, by codes
 //   largest    as much of everything as there may be
 //   layers     formulas as deep as there may be
-//   judging, asking, reading, formulas   the calls asked and told
+//   judging, asking, reading, formulas, labels   the calls asked and told
 //   table, lines, spaces   the parts of a table, the words of a line, what was lent compared
 mod asking;
 mod base;
 mod cases;
 mod formulas;
 mod judging;
+mod labels;
 mod largest;
 mod layers;
 mod lines;
