@@ -24,11 +24,7 @@ if (built); then
             '') try "$asking" example "$asking" "${answering%?}" ;;
             *) answering+=$line$'\n' ;;
         esac
-    done 8< <(cat "$checkout/examples/formulas.txt" && echo)
-    if [ -e "$checkout/label" ]; then
-        measured="'atleast=4.75 volts=4.9,5.1' 'atmost=5.25 volts=4.9,5.3' 'between=4.75,5.25 volts=4.9,5.1' 'atleast=-2 ticks=3,5'"
-        try "four measurements" example "printf '%s\n' $measured | ./label" $'T\nU\nT\nT'
-    fi
+    done 8< <(for asked in "$checkout"/examples/*.txt; do cat "$asked" && echo; done)
 else
     echo "the examples weren't tried: the programs aren't built here"
 fi
