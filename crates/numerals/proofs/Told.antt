@@ -5,8 +5,8 @@ use mathlib.Core.Bool.{Bool}
 use mathlib.Core.Option.{Option, none, some}
 use native.Mathlib.Omega.{arith}
 use Rattle.numerals.specs.Wholes.{made}
-use Rattle.numerals.specs.Answers.{wholeTold, signedTold, mantissaTold}
-use Rattle.numerals.specs.Inside.{withSign, withFraction}
+use Rattle.numerals.specs.Answers.{wholeTold, signedTold}
+use Rattle.numerals.specs.Inside.{mantissaTold, withSign, withFraction}
 use Rattle.numerals.specs.declared.wholes.Whole.the-variants as number
 use Rattle.numerals.specs.declared.wholes.Signed.the-variants as signedNumber
 use Rattle.numerals.specs.declared.decimals.Mantissa.the-variants as digits

@@ -7,8 +7,6 @@ use Rattle.numerals.specs.declared.wholes.Whole.{Whole}
 use Rattle.numerals.specs.declared.wholes.Whole.the-variants as number
 use Rattle.numerals.specs.declared.wholes.Signed.{Signed}
 use Rattle.numerals.specs.declared.wholes.Signed.the-variants as withSign
-use Rattle.numerals.specs.declared.decimals.Mantissa.{Mantissa}
-use Rattle.numerals.specs.declared.decimals.Mantissa.the-variants as digits
 use Rattle.numerals.specs.declared.doubles.Double.{Double}
 use Rattle.numerals.specs.declared.doubles.Double.the-variants as float
 
@@ -19,10 +17,6 @@ wholeTold (some n) = number.Is n
 abbrev pub signedTold : Option (Bool × ℕ) → Signed
 signedTold none = withSign.None
 signedTold (some p) = withSign.Is (p .0) (p .1)
-
-abbrev pub mantissaTold : Option (ℕ × ℕ) → Mantissa
-mantissaTold none = digits.None
-mantissaTold (some p) = digits.Is (p .0) (p .1)
 
 abbrev pub doubleTold : Option Float → Double
 doubleTold none = float.None

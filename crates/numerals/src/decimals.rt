@@ -13,8 +13,8 @@ ghost use Prim.Native.Nat.{_+_, _≤_, _^_, _<_};
 ghost use lib.ListN.{length};
 ghost use Rattle.numerals.specs.Wholes.{mostDigits};
 ghost use Rattle.numerals.specs.Decimals.{pointed, mantissa, exponent, upward, downward};
-ghost use Rattle.numerals.specs.Inside.{withFraction};
-ghost use Rattle.numerals.specs.Answers.{mantissaTold, signedTold};
+ghost use Rattle.numerals.specs.Inside.{mantissaTold, withFraction};
+ghost use Rattle.numerals.specs.Answers.{signedTold};
 
 pub(crate) enum Mantissa {
     Is(u64, u64),

@@ -20,7 +20,7 @@ use Rattle.readings.proofs.Orders.{voltages-ordered, whole-itself}
 use Rattle.readings.proofs.Gates.{crossed, single, measured-small}
 use Rattle.readings.proofs.Meaning.{true-all, false-none, all-true, none-false, single-known, narrower-true, narrower-false}
 use Rattle.readings.proofs.Turns.{turn-more, delay-there, delay-one}
-use Rattle.promises.specs.Labels.{labelOf, TrueIsInside, FalseIsOutside, Labelled≤2, SoundIsLabelled, BrokenIsUnknown, GateRefused, NanAlone, NarrowerKeeps, EqualEndsKnown, DelayKnown, DelayThere, OneDelay, TurnsCount, WorkedDelays}
+use Rattle.promises.specs.Labels.{labelOf, TrueIsInside, FalseIsOutside, LabelGiven, SoundIsLabelled, BrokenIsUnknown, GateRefused, NanAlone, NarrowerKeeps, EqualEndsKnown, DelayKnown, DelayThere, OneDelay, TurnsCount, WorkedDelays}
 
 -- a label is its number
 one-label : (m n : ℕ) → labelOf m ≡ labelOf n → m ≡ n

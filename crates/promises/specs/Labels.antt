@@ -46,13 +46,13 @@ FalseIsOutside = (r : Reading) (g : Gate) → Sound g → Whole r
     × (((v : Float) → Possible r v → inside le (voltageLimits g) v ≡ false) → voltageLabel r g ≡ labelOf 0)
 
 -- "Otherwise unknown": a sound gate gives a label and no other number.
-pub record Labelled≤2 (a : Labelled) : Type 0 where
+pub record LabelGiven (a : Labelled) : Type 0 where
   pub value : ℕ
   pub is : a ≡ labelOf value
   pub range : value ≤ 2
 
 abbrev pub SoundIsLabelled : Type 0
-SoundIsLabelled = (r : Reading) (g : Gate) → Sound g → Labelled≤2 (voltageLabel r g)
+SoundIsLabelled = (r : Reading) (g : Gate) → Sound g → LabelGiven (voltageLabel r g)
 
 -- "A reading with a NaN or with its ends crossed is unknown."
 abbrev pub BrokenIsUnknown : Type 0

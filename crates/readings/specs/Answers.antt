@@ -1,5 +1,4 @@
 -- What the calls of this crate answer, for every input.
-use Prim.Native.Nat.{ℕ}
 use mathlib.Core.Bool.{Bool, cond}
 use lib.IntN.{ℤ}
 use lib.Signed.{leZ}
@@ -28,11 +27,6 @@ delayLimits (delay.Between a b) = between a b
 -- a gate with a NaN or crossed limits is refused with 21, whatever was measured
 unfoldable pub labelled : {A : Type 0} → (A → A → Bool) → Limits A → A → A → Labelled
 labelled le gate least greatest = cond (sound le gate) (Is (verdict (measured le gate least greatest))) (Refused 21)
-
--- the number of each answer: a refusal's own, and 0 for any other
-abbrev pub labelNumber : Labelled → ℕ
-labelNumber (Is v) = 0
-labelNumber (Refused n) = n
 
 -- `label`: by IEEE 754's order
 unfoldable pub voltageLabel : Reading → Gate → Labelled

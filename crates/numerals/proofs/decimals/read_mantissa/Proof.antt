@@ -9,8 +9,7 @@ use borrow.Author.Needs.{needs}
 use Rattle.numerals.specs.Texts.{has, before, behind}
 use Rattle.numerals.specs.Wholes.{mostDigits, whole}
 use Rattle.numerals.specs.Decimals.{point, pointed}
-use Rattle.numerals.specs.Answers.{mantissaTold}
-use Rattle.numerals.specs.Inside.{withFraction}
+use Rattle.numerals.specs.Inside.{mantissaTold, withFraction}
 use Rattle.numerals.proofs.Cuts.{front-is, rest-is, none-there, one-there, place-within, cut-length}
 use Rattle.numerals.proofs.Forms.{mantissa-bare, mantissa-empty, mantissa-long, mantissa-pointed}
 use Rattle.numerals.proofs.Told.{fraction-made}

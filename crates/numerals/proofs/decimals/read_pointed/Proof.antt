@@ -5,8 +5,7 @@ use mathlib.Core.Option.{some}
 use lib.ListN.{length}
 use borrow.Author.Needs.{needs}
 use Rattle.numerals.specs.Wholes.{digitsFrom, whole}
-use Rattle.numerals.specs.Answers.{mantissaTold}
-use Rattle.numerals.specs.Inside.{withFraction}
+use Rattle.numerals.specs.Inside.{mantissaTold, withFraction}
 use Rattle.numerals.proofs.Bounds.{room-behind}
 use Rattle.numerals.proofs.Forms.{pointed-none, pointed-some}
 use Rattle.numerals.proofs.Told.{whole-none, whole-some, fraction-made}

@@ -7,7 +7,8 @@ use lib.ListN.{length, take}
 use borrow.Author.Needs.{needs}
 use Rattle.numerals.specs.Texts.{before}
 use Rattle.numerals.specs.Decimals.{exponentSign, mantissa, exponent}
-use Rattle.numerals.specs.Answers.{mantissaTold, doubleTold}
+use Rattle.numerals.specs.Answers.{doubleTold}
+use Rattle.numerals.specs.Inside.{mantissaTold}
 use Rattle.numerals.proofs.Cuts.{front-is}
 use Rattle.numerals.proofs.Bounds.{mantissa-small, exponent-small}
 use Rattle.numerals.proofs.Forms.{decimal-none, decimal-lone, decimal-both}
