@@ -13,6 +13,7 @@
 //!   99        at a limit, the limits in turn; about one case in 200 is large
 
 use crate::answers;
+use crate::kinds::Kinds;
 use crate::limits::{self, model_case};
 use crate::model::{text_of, Model};
 use crate::question::{Asking, Question};
@@ -22,28 +23,33 @@ use crate::{askings, breaks, formula, judge, misasked, models, question, reader,
 /// A fresh case: of every four two are of the mixture above, one is about formulas, one about measurements.
 pub fn mixed(seed: u64, number: usize) -> Vec<u8> {
     match number % 4 {
-        2 => formula::mixture::case(seed, number / 4),
+        2 => formula::mixture::case(Kinds::All, seed, number / 4),
         3 => readings::mixture::case(seed, number / 4),
-        place => case(seed, number / 4 * 2 + place),
+        place => case(Kinds::All, seed, number / 4 * 2 + place),
     }
 }
 
 /// Case number `number` of a seed; an accepted model that leaves an atom unnamed is drawn again.
-pub fn case(seed: u64, number: usize) -> Vec<u8> {
-    let mut random = Random::of_case(seed, number as u64);
+pub fn case(kinds: Kinds, seed: u64, number: usize) -> Vec<u8> {
+    drawn(Random::of_case(seed, number as u64).drawing(kinds), number)
+}
+
+/// What the mixture has at this number, whatever the random numbers are.
+pub fn drawn(mut random: Random, number: usize) -> Vec<u8> {
     loop {
         let case = draw(&mut random, number);
-        if !accepted_with_unnamed_atom(&case) {
+        if !accepted_with_unnamed_atom(random.kinds, &case) {
             return case;
         }
     }
 }
 
-fn accepted_with_unnamed_atom(case: &[u8]) -> bool {
+/// A model with a kind beyond those that are drawn counts as refused, as it was when it was stored.
+fn accepted_with_unnamed_atom(kinds: Kinds, case: &[u8]) -> bool {
     let Some(Ok(model)) = case.strip_prefix(b"M\n").map(reader::read) else {
         return false;
     };
-    !model.names_every_atom() && judge::judge_whole(&model).is_ok()
+    kinds.hold(&model.nodes) && !model.names_every_atom() && judge::judge_whole(&model).is_ok()
 }
 
 fn draw(random: &mut Random, number: usize) -> Vec<u8> {
@@ -77,6 +83,9 @@ pub fn sure(case: Vec<u8>, number: u16) -> Vec<u8> {
 fn refused_tables(random: &mut Random, cause: u16) -> Vec<u8> {
     let mut model = models::small(random);
     spoiled::spoil(random, &mut model, cause);
+    if random.kinds.lifted(cause) {
+        return model_case(model.text());
+    }
     sure(model_case(model.text()), cause)
 }
 

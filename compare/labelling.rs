@@ -1,6 +1,7 @@
 //! Judging by two ordinary labellings: "sure" takes unknown against us, "possible" takes it in our favour.
 //! Negation exchanges the two (document 000, section 6).
 
+use crate::along::{held, met, worths};
 use crate::model::{successors, Model};
 
 #[derive(Clone)]
@@ -38,12 +39,26 @@ fn node_marks(model: &Model, node: &[u16], marks: &[Marks], next: &[Vec<usize>])
         4 => both(&|one, _| next.iter().map(|list| list.iter().any(|&s| one[s])).collect()),
         5 => both(&|one, other| until(one, other, next, false)),
         6 => both(&|one, other| until(one, other, next, true)),
+        7 => both(&|one, other| either(one, other)),
+        8 => Marks {
+            sure: either(&negated(&marks[left].possible), &marks[right].sure),
+            possible: either(&negated(&marks[left].sure), &marks[right].possible),
+        },
+        9 => both(&|one, _| next.iter().map(|list| list.iter().all(|&s| one[s])).collect()),
+        10 => both(&|one, _| worths(one, next, met).iter().map(|&(_, greatest)| greatest).collect()),
+        11 => both(&|one, _| worths(one, next, met).iter().map(|&(least, _)| least).collect()),
+        12 => both(&|one, _| worths(one, next, held).iter().map(|&(_, greatest)| greatest).collect()),
+        13 => both(&|one, _| worths(one, next, held).iter().map(|&(least, _)| least).collect()),
         kind => panic!("kind {kind} is refused before judging"),
     }
 }
 
 fn negated(marks: &[bool]) -> Vec<bool> {
     marks.iter().map(|mark| !mark).collect()
+}
+
+fn either(one: &[bool], other: &[bool]) -> Vec<bool> {
+    one.iter().zip(other).map(|(&a, &b)| a || b).collect()
 }
 
 /// The least fixpoint by plain rounds: right, or left with all (A) or some (E) successors marked.

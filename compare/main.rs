@@ -1,6 +1,7 @@
 //! An independent second program: it makes cases, knows their answers by brute force, and compares.
 #![forbid(unsafe_code)]
 
+mod along;
 mod answers;
 mod askings;
 mod breaks;
@@ -9,6 +10,7 @@ mod frames;
 mod generate;
 mod graphs;
 mod judge;
+mod kinds;
 mod labelling;
 mod limits;
 mod misasked;
@@ -24,15 +26,18 @@ mod selftest;
 mod spoiled;
 mod statistics;
 mod walks;
+mod wider;
 
+use kinds::Kinds;
 use std::io::{Read, Write};
 use std::process::ExitCode;
 
 const USAGE: &str = "compare make COUNT SEED INPUT_FILE ANSWER_FILE
     writes COUNT fresh cases and their answers
-compare store COUNT FORMULAS READINGS SEED INPUT_FILE ANSWER_FILE [MODEL_FILE ..]
+compare store COUNT FORMULAS READINGS KINDS SEED INPUT_FILE ANSWER_FILE [MODEL_FILE ..]
     writes the model files' cases, COUNT of models and paths, the listed ones of formulas, FORMULAS random ones,
-    the listed ones of measurements, READINGS random ones
+    the listed ones of measurements, READINGS random ones, all of the kinds up to 6; then the model files' with
+    a kind above 6, the listed ones of such kinds, KINDS random ones over all kinds
 compare explain INPUT_FILE N
     prints case N (from 0) and its expected answer
 compare differ INPUT_FILE EXPECTED GOT
@@ -49,8 +54,8 @@ fn main() -> ExitCode {
     let words: Vec<&str> = words.iter().map(String::as_str).collect();
     let done = match words[..] {
         ["make", count, seed, input, answers] => make(count, seed, input, answers),
-        ["store", count, formulas, readings, seed, input, answers, ref models @ ..] => {
-            store([count, formulas, readings], seed, [input, answers], models)
+        ["store", count, formulas, readings, kinds, seed, input, answers, ref models @ ..] => {
+            store([count, formulas, readings, kinds], seed, [input, answers], models)
         }
         ["explain", input, number] => explain(input, number),
         ["differ", input, expected, got] => differ(input, expected, got),
@@ -83,23 +88,35 @@ fn make(count: &str, seed: &str, input: &str, answers: &str) -> Result<ExitCode,
 }
 
 /// What is added comes behind what was there, so that no stored case moves.
-fn store(counts: [&str; 3], seed: &str, files: [&str; 2], models: &[&str]) -> Result<ExitCode, String> {
+fn store(counts: [&str; 4], seed: &str, files: [&str; 2], models: &[&str]) -> Result<ExitCode, String> {
     let (count, formulas): (usize, usize) = (number(counts[0])?, number(counts[1])?);
-    let (readings, seed): (usize, u64) = (number(counts[2])?, number(seed)?);
-    let mut cases = Vec::new();
-    for file in models {
-        let text = load(file)?;
-        if text.len() > reader::MOST_BYTES + 1 {
-            return Err(format!("{file}: a case holds at most {} bytes", reader::MOST_BYTES + 1));
-        }
-        cases.push(limits::model_case(text));
-    }
-    cases.extend((0..count).map(|place| generate::case(seed, place)));
+    let (readings, kinds): (usize, usize) = (number(counts[2])?, number(counts[3])?);
+    let seed: u64 = number(seed)?;
+    let models = models.iter().map(|file| load_model(file)).collect::<Result<Vec<_>, String>>()?;
+    let (mut cases, since): (Vec<_>, Vec<_>) = models.into_iter().partition(|case| of_first_kinds(case));
+    cases.extend((0..count).map(|place| generate::case(Kinds::First, seed, place)));
     cases.extend(formula::listed::cases());
-    cases.extend((0..formulas).map(|place| formula::mixture::case(seed, place)));
+    cases.extend((0..formulas).map(|place| formula::mixture::case(Kinds::First, seed, place)));
     cases.extend(readings::listed::cases());
     cases.extend((0..readings).map(|place| readings::mixture::case(seed, place)));
+    cases.extend(since);
+    cases.extend(wider::listed::cases());
+    cases.extend(formula::wider::cases());
+    cases.extend((0..kinds).map(|place| wider::mixture::case(seed, place)));
     write_cases(&cases, files[0], files[1])
+}
+
+fn load_model(file: &str) -> Result<Vec<u8>, String> {
+    let text = load(file)?;
+    match text.len() > reader::MOST_BYTES + 1 {
+        true => Err(format!("{file}: a case holds at most {} bytes", reader::MOST_BYTES + 1)),
+        false => Ok(limits::model_case(text)),
+    }
+}
+
+/// Whether a model's case has no kind above 6, or no kinds at all.
+fn of_first_kinds(case: &[u8]) -> bool {
+    reader::read(&case[2..]).map_or(true, |model| Kinds::First.hold(&model.nodes))
 }
 
 fn write_cases(cases: &[Vec<u8>], input: &str, answers: &str) -> Result<ExitCode, String> {

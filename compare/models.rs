@@ -73,7 +73,19 @@ fn initial(random: &mut Random, states: usize) -> Vec<u8> {
     initial
 }
 
-/// Nodes for all atoms first (without atoms the constant), then a mixture of the seven kinds.
+/// How often each kind is drawn, the first seven.
+const FIRST: [[usize; 7]; 4] =
+    [[1, 1, 4, 4, 3, 5, 5], [1, 1, 1, 1, 1, 9, 9], [0, 0, 3, 0, 0, 5, 5], [1, 1, 6, 6, 6, 1, 1]];
+
+/// And all: evenly, more of those about walks, more of the others, none without an operand. Atoms come anyway.
+const ALL: [[usize; 14]; 4] = [
+    [3, 1, 3, 3, 3, 3, 3, 3, 3, 3, 3, 3, 3, 3],
+    [3, 1, 2, 2, 2, 5, 5, 2, 2, 2, 5, 5, 5, 5],
+    [3, 1, 5, 5, 5, 2, 2, 5, 5, 5, 2, 2, 2, 2],
+    [0, 0, 3, 3, 3, 3, 3, 3, 3, 3, 3, 3, 3, 3],
+];
+
+/// Nodes for all atoms first (without atoms the constant), then a mixture of the kinds.
 pub fn formulas(random: &mut Random, atoms: usize, count: usize) -> Vec<u16> {
     let mut numbers: Vec<u16> = (0..atoms as u16).collect();
     random.shuffle(&mut numbers);
@@ -81,10 +93,10 @@ pub fn formulas(random: &mut Random, atoms: usize, count: usize) -> Vec<u16> {
     if nodes.is_empty() {
         nodes.push([0, 0, 0]);
     }
-    let mixtures = [[1, 1, 4, 4, 3, 5, 5], [1, 1, 1, 1, 1, 9, 9], [0, 0, 3, 0, 0, 5, 5], [1, 1, 6, 6, 6, 1, 1]];
-    let mixture = random.pick(&mixtures);
+    let which = random.below(4);
+    let mixture = random.kinds.choose(&FIRST[which][..], &ALL[which]);
     while nodes.len() < count {
-        let kind = random.weighted(&mixture) as u16;
+        let kind = random.weighted(mixture) as u16;
         nodes.push(node(random, kind, nodes.len(), atoms));
     }
     nodes.concat()
@@ -94,9 +106,9 @@ fn node(random: &mut Random, kind: u16, place: usize, atoms: usize) -> [u16; 3] 
     let (recent, other) = (operand(random, place), random.below(place) as u16);
     match kind {
         1 if atoms > 0 => [1, random.below(atoms) as u16, 0],
-        2 | 4 => [kind, recent, 0],
-        3 | 5 | 6 if random.chance(50) => [kind, recent, other],
-        3 | 5 | 6 => [kind, other, recent],
+        2 | 4 | 9..=13 => [kind, recent, 0],
+        3 | 5..=8 if random.chance(50) => [kind, recent, other],
+        3 | 5..=8 => [kind, other, recent],
         _ => [0, 0, 0],
     }
 }

@@ -1,15 +1,23 @@
 //! A small random generator (splitmix64): one seed and one case number give the same case everywhere.
 
+use crate::kinds::Kinds;
+
 pub struct Random {
     state: u64,
+    /// Which kinds of nodes are drawn.
+    pub kinds: Kinds,
 }
 
 impl Random {
     /// Each case has its own stream, so a case does not depend on those before it.
     pub fn of_case(seed: u64, case: u64) -> Random {
-        let mut random = Random { state: seed };
+        let mut random = Random { state: seed, kinds: Kinds::All };
         let first = random.next();
-        Random { state: first ^ case.wrapping_mul(0xd1b5_4a32_d192_ed03) }
+        Random { state: first ^ case.wrapping_mul(0xd1b5_4a32_d192_ed03), ..random }
+    }
+
+    pub fn drawing(self, kinds: Kinds) -> Random {
+        Random { kinds, ..self }
     }
 
     pub fn next(&mut self) -> u64 {

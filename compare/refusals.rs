@@ -35,7 +35,7 @@ pub fn of_judging(model: &Model, space: usize) -> Option<u16> {
     tests.push((5, Box::new(move || initial.iter().any(|&entry| entry > 1))));
     tests.push((5, Box::new(move || !initial.contains(&1))));
     tests.push((10, Box::new(move || count == 0 || count > 192 || count % 3 != 0)));
-    tests.push((11, Box::new(move || nodes.chunks_exact(3).any(|node| node[0] > 6))));
+    tests.push((11, Box::new(move || nodes.chunks_exact(3).any(|node| node[0] > 13))));
     tests.push((
         12,
         Box::new(move || nodes.chunks_exact(3).enumerate().any(|(place, node)| bad_operands(place, node, atoms))),
@@ -50,8 +50,8 @@ fn bad_operands(place: usize, node: &[u16], atoms: usize) -> bool {
     match node[0] {
         0 => left != 0 || right != 0,
         1 => left >= atoms || right != 0,
-        2 | 4 => left >= place || right != 0,
-        3 | 5 | 6 => left >= place || right >= place,
+        2 | 4 | 9..=13 => left >= place || right != 0,
+        3 | 5..=8 => left >= place || right >= place,
         _ => false,
     }
 }

@@ -8,7 +8,7 @@ use crate::model::{letters, Model};
 use crate::models;
 use crate::question::{self, Asking, Question};
 use crate::random::Random;
-use crate::{formula, frames, generate, reader, readings};
+use crate::{formula, frames, generate, reader, readings, wider};
 use std::process::ExitCode;
 
 pub fn run() -> ExitCode {
@@ -25,6 +25,7 @@ pub fn run() -> ExitCode {
     framing();
     formula::selftest();
     readings::selftest();
+    wider::selftest();
     println!("selftest ok");
     ExitCode::SUCCESS
 }
@@ -187,7 +188,7 @@ fn order_of_refusals() {
     assert_eq!(changed("edge=1,1", "edge=1,2"), "answer=7\n");
     assert_eq!(changed("edge=1,1", "edge=0,1"), "answer=8\n");
     assert_eq!(changed("edge=0,1\nedge=1,1", "edge=0,0\nedge=0,1"), "answer=9\n");
-    assert_eq!(changed("node=4,0,0", "node=7,9,9"), "answer=11\n");
+    assert_eq!(changed("node=4,0,0", "node=14,9,9"), "answer=11\n");
     assert_eq!(changed("node=4,0,0", "node=4,1,0"), "answer=12\n");
     assert_eq!(changed("node=1,0,0", "node=1,1,0"), "answer=12\n");
     assert_eq!(changed("node=2,0,0\n", "node=2,0,0\n\n"), "answer=19\n");

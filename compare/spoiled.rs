@@ -14,7 +14,7 @@ pub fn spoil(random: &mut Random, model: &mut Model, cause: u16) {
         9 => dead_end(random, model),
         11 => {
             let place = 3 * random.below(model.nodes.len() / 3);
-            model.nodes[place] = random.pick(&[7, 8, 9, 255, 256, 65_535]);
+            model.nodes[place] = random.kinds.no_kind(random);
         }
         12 => bad_operand(random, model),
         other => panic!("no such cause: {other}"),
@@ -67,8 +67,10 @@ fn bad_operand(random: &mut Random, model: &mut Model) {
     match (kind, random.chance(50)) {
         (0, true) => model.nodes[left] = odd,
         (1, true) => model.nodes[left] = no_atom,
-        (0..=2 | 4, false) => model.nodes[right] = odd,
-        (2..=6, true) => model.nodes[left] = late,
+        // A number that is no kind has no unused number either.
+        _ if kind > random.kinds.greatest() => model.nodes[right] = late,
+        (0..=2 | 4 | 9..=13, false) => model.nodes[right] = odd,
+        (_, true) => model.nodes[left] = late,
         _ => model.nodes[right] = late,
     }
 }

@@ -8,6 +8,7 @@ struct Counts {
     cases: BTreeMap<String, usize>,
     answers: BTreeMap<(char, String), usize>,
     last_rows: BTreeMap<char, usize>,
+    kinds: BTreeMap<u16, usize>,
     verdicts: BTreeMap<char, usize>,
     walked: usize,
     input_bytes: usize,
@@ -30,6 +31,7 @@ pub fn print(count: usize, seed: u64) {
         line(&counts.last_rows)
     );
     println!("accepted models judged by listing every walk too: {}", counts.walked);
+    println!("their nodes by kind: {}", line(&counts.kinds));
     for kind in ['M', 'F', 'N', 'C', 'R', 'P', 'K', 'Q', 'V', 'D', 'L'] {
         let of_kind: BTreeMap<String, usize> =
             counts.answers.iter().filter(|((k, _), _)| *k == kind).map(|((_, a), n)| (a.clone(), *n)).collect();
@@ -61,8 +63,9 @@ impl Counts {
         if kind == 'Q' {
             return;
         }
-        let judged = reader::read(&case[2..]).and_then(|model| judge::judge_whole(&model));
-        self.walked += judged.is_ok_and(|judged| judged.by_walks) as usize;
+        let model = reader::read(&case[2..]).expect("an accepted model");
+        self.walked += judge::judge_whole(&model).is_ok_and(|judged| judged.by_walks) as usize;
+        model.nodes.chunks(3).for_each(|node| *self.kinds.entry(node[0]).or_default() += 1);
     }
 }
 

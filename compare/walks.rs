@@ -1,4 +1,4 @@
-//! Judging literally as the paper words it: every walk of exactly S states is listed and its until-value taken.
+//! Judging literally as the paper words it: every walk of exactly S states is listed and its value taken.
 
 use crate::model::{successors, Model};
 
@@ -37,6 +37,8 @@ fn verdict(
 ) -> u8 {
     let (left, right) = (node[1] as usize, node[2] as usize);
     let values = || walks.iter().map(|walk| until_value(walk, &rows[left], &rows[right]));
+    let greatest = || walks.iter().map(|walk| greatest_value(walk, &rows[left]));
+    let least = || walks.iter().map(|walk| least_value(walk, &rows[left]));
     match node[0] {
         0 => 2,
         1 => model.labels[state * model.atoms + left],
@@ -45,6 +47,13 @@ fn verdict(
         4 => next[state].iter().map(|&after| rows[left][after]).max().unwrap(),
         5 => values().max().unwrap(),
         6 => values().min().unwrap(),
+        7 => rows[left][state].max(rows[right][state]),
+        8 => (2 - rows[left][state]).max(rows[right][state]),
+        9 => next[state].iter().map(|&after| rows[left][after]).min().unwrap(),
+        10 => greatest().max().unwrap(),
+        11 => greatest().min().unwrap(),
+        12 => least().max().unwrap(),
+        13 => least().min().unwrap(),
         kind => panic!("kind {kind} is refused before judging"),
     }
 }
@@ -56,6 +65,14 @@ pub fn until_value(walk: &[usize], left: &[u8], right: &[u8]) -> u8 {
         before.chain([right[walk[place]]]).min().unwrap()
     };
     (0..walk.len()).map(at).max().unwrap()
+}
+
+pub fn greatest_value(walk: &[usize], row: &[u8]) -> u8 {
+    walk.iter().map(|&state| row[state]).max().unwrap()
+}
+
+pub fn least_value(walk: &[usize], row: &[u8]) -> u8 {
+    walk.iter().map(|&state| row[state]).min().unwrap()
 }
 
 /// How many walks there are from all states together, without listing them.

@@ -67,7 +67,7 @@ function meet_node(value, part, this, i, use) {
 BEGIN {
     split("states atoms init label edges edge nodes node", key, " ")
     # what a kind does with its two numbers: an atom, a node, nothing
-    split("-- a- n- nn n- nn nn", list, " ")
+    split("-- a- n- nn n- nn nn nn nn n- n- n- n- n-", list, " ")
     for (i in list) uses[i - 1] = list[i]
     nodes = 0; at = 1; left = 1
 }
@@ -91,9 +91,9 @@ END {
     if (by_formula && number == 12) found(atom_beyond(asked(), count["atoms"]))
     if (by_formula && number == 20) found(fault_in(asked()))
     if (number == "node") {
-        for (i = 0; i < nodes; i++) if (kind[i] == 5) untils = untils (untils == "" ? "" : ", ") i
+        for (i = 0; i < nodes; i++) if (kind[i] == 5 || kind[i] == 10) listed = listed (listed == "" ? "" : ", ") i
         if (node + 0 >= nodes) found(below(nodes, "nodes") ", here " node)
-        else found("node " node " is of kind " kind[node + 0] "; exists-until nodes (kind 5) of this model: " (untils == "" ? "none" : untils))
+        else found("node " node " is of kind " kind[node + 0] "; exists-until and EF nodes (kinds 5 and 10): " (listed == "" ? "none" : listed))
     }
     if (number == 19) {
         if (bad && at < 9 && broken ~ /\r$/) found("line " bad " ends in a carriage return; lines end in a line feed alone")

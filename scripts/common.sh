@@ -139,7 +139,7 @@ unset formula
 
 # As every formula begins, or its first word without quotes. Whether it is one, the program says.
 begins_formula() { # WORD
-    case $1 in T | p[0-9]* | '!'* | '('* | EX | 'EX '* | 'E('* | 'A('*) ;; *) return 1 ;; esac
+    case $1 in T | p[0-9]* | '!'* | '('* | [EA][XFG] | [EA][XFG]' '* | [EA]'('*) ;; *) return 1 ;; esac
 }
 
 # A formula, or its first word without quotes, in the place of the file.
@@ -151,11 +151,11 @@ file_first() { # WORD
     wrong "there is no file '$1': the file comes first, and then the formula in quotes"
 }
 
-# Blanks stand only around U and behind EX: of the pieces of a formula without quotes, one begins or ends there.
+# Blanks stand only around U and behind a prefix of two letters: of the pieces of a formula without quotes, one begins or ends there.
 quotes="a formula with blanks is put in quotes"
 in_pieces() { # WORDS
     for word; do
-        case $word in U | 'U '* | *' U' | EX | *['!(& ']EX) return 0 ;; esac
+        case $word in U | 'U '* | *' U' | [EA][XFG] | *['!(&|> '][EA][XFG]) return 0 ;; esac
     done
     return 1
 }
@@ -174,9 +174,12 @@ rule() { # SECTION KEY
 # A limit as the rules write it, 1,024 say.
 most() { rule Limits "$1"; }
 
-# The grammar of a formula as the rules have it, a line for each form.
+# The grammar of a formula as the rules have it, a line for each form. A | within a cell has a backslash before it there.
 grammar() {
-    awk -F ' *[|] *' '/^## / { on = $0 == "## Formulas" } on && $2 ~ /^`/ { gsub("`", "", $2); printf "  %-12s%s\n", $2, $3 }' <"$root/docs/RULES.md"
+    awk -F ' *[|] *' '
+        /^## / { on = $0 == "## Formulas" }
+        { gsub(/\\[|]/, "\001") }
+        on && $2 ~ /^`/ { gsub("`", "", $2); gsub("\001", "|", $2); printf "  %-12s%s\n", $2, $3 }' <"$root/docs/RULES.md"
     echo "  f and g are formulas again; there is one blank where it is shown, and nowhere else"
 }
 

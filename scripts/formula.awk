@@ -28,19 +28,26 @@ function takes_atom(text, digit, digits) {
     wanted = "the number of an atom"
     return digits != ""
 }
-# what stands before an operand: a prefix, or a bracket that opens, whose middle is kept
+# what stands before an operand: a prefix, or a bracket that opens, of which is kept what is due in its middle
 function takes_opening(text, sign) {
     sign = substr(text, place++, 1)
-    if (sign == "E" && substr(text, place, 1) == "X") {
+    if (sign == "!") return 1
+    if (sign != "(" && substr(text, place, 1) ~ /^[XFG]$/) {
         place++
         return takes(text, " ")
     }
-    if (sign == "!") return 1
     if (sign != "(" && !takes(text, "(")) {
-        if (sign == "E") wanted = "X or ("
+        wanted = "X, F, G or ("
         return 0
     }
-    open[++depth] = sign == "(" ? "&" : " U "
+    open[++depth] = sign == "(" ? "sign" : " U "
+    return 1
+}
+function takes_middle(text) {
+    if (open[depth] == " U ") return takes(text, " U ")
+    wanted = "&, | or >"
+    if (substr(text, place, 1) !~ /^[&|>]$/) return 0
+    place++
     return 1
 }
 function is_formula(text) {
@@ -53,27 +60,39 @@ function is_formula(text) {
         for (; depth > 0 && open[depth] == ")"; depth--) if (!takes(text, ")")) return 0
         wanted = "the end of the formula"
         if (depth == 0) return place > length(text)
-        if (!takes(text, open[depth])) return 0
+        if (!takes_middle(text)) return 0
         open[depth] = ")"
     }
 }
 
 function named(byte) { return byte == " " ? "a blank" : byte ~ /^[!-~]$/ ? "'" byte "'" : "a byte that no formula has" }
-function fault_in(text, byte, hint) {
+# what may have been meant by a byte that isn't due
+function hint(text, byte, before) {
+    before = place > 1 ? substr(text, place - 1, 1) : ""
+    if (byte == "P") return "; an atom has a small p"
+    if (wanted == "a formula" && byte ~ /^[aet]$/ || wanted == "X, F, G or (" && byte ~ /^[xfg]$/ || wanted == "U" && byte == "u")
+        return "; A, E, F, G, T, U and X are capital letters"
+    if (wanted == "a formula" && byte ~ /^[XFG]$/) return "; " byte " stands behind an E or an A" (byte == "F" ? ", and false is !T" : "")
+    if (substr(text, place, 2) ~ /^[-=]>$/) return "; an implies is written (f>g)"
+    if (wanted == "&, | or >" && byte == ")") return "; brackets hold two formulas"
+    if (byte !~ /^[&|>]$/) return ""
+    if (byte == before) return "; the sign is a single " byte
+    # behind an operand
+    if (before ~ /^[0-9T)]$/) return "; an " (byte == "&" ? "and" : byte == "|" ? "or" : "implies") " has brackets of its own"
+    return ""
+}
+function fault_in(text, byte) {
     if (length(text) > plain(most_formula)) return "at most " most_formula " bytes, here " length(text)
     if (text == "") return "the formula is empty"
     if (is_formula(text)) return ""
     if (wanted == " ") wanted = "a blank"
     if (place > length(text)) return "the formula ends behind byte " length(text) "; due there: " wanted
     byte = substr(text, place, 1)
-    if (byte ~ /^[aetux]$/ && (wanted == "a formula" || wanted == "U" || wanted == "X or (")) hint = "; A, E, T, U and X are capital letters"
-    if (byte == "P") hint = "; an atom has a small p"
-    if (byte == "&" && wanted ~ /^the end/) hint = "; an and has brackets around it"
-    return "byte " place " of the formula is " named(byte) "; due there: " wanted hint
+    return "byte " place " of the formula is " named(byte) "; due there: " wanted hint(text, byte)
 }
 
 # each node has one of these signs
-function nodes_in(text) { return gsub(/[Tp!&XU]/, "", text) }
+function nodes_in(text) { return gsub(/[Tp!&|>XFGU]/, "", text) }
 
 function atoms_named(atoms) { return atoms > 1 ? atoms " atoms, p0 to p" atoms - 1 : atoms == 1 ? "one atom, p0" : "no atom" }
 function atom_beyond(text, atoms, digits) {

@@ -4,29 +4,37 @@ use super::tree::Formula;
 use super::{reading, rebuilding};
 use std::collections::{BTreeMap, BTreeSet};
 
-/// The grammar's signs, and some that are only parts of them.
-const SIGNS: [&str; 12] = ["T", "p3", "!", "EX ", "E(", "(", "&", " U ", ")", "E", " ", "1"];
+/// The grammar's signs, and some that are only parts of them; parts make none but the signs that stand beside them.
+const SIGNS: [[&str; 12]; 3] = [
+    ["T", "p3", "!", "EX ", "E(", "(", "&", " U ", ")", "E", " ", "1"],
+    ["T", "p3", "AX ", "EG ", "EF ", "(", "|", ">", ")", "X", " ", "-"],
+    ["T", "AF ", "AG ", "A(", "(", ">", " U ", ")", "A", "F", "G", " "],
+];
+const PREFIXES: [&str; 7] = ["!", "EX ", "AX ", "EF ", "AF ", "EG ", "AG "];
+const JOINTS: [(&str, &str); 5] = [("(", "&"), ("(", "|"), ("(", ">"), ("E(", " U "), ("A(", " U ")];
 const MOST_SIGNS: usize = 6;
 const MOST_LISTED: usize = 3;
 
 /// A text and how many signs it has.
 type Texts = BTreeMap<String, usize>;
 
-/// The grammar's rules applied to what is there until nothing new comes within the count of signs.
-fn texts() -> Texts {
-    let leaves = ["T", "p3", "p31"];
-    let mut found: Texts = leaves.iter().map(|leaf| (leaf.to_string(), 1 + (*leaf == "p31") as usize)).collect();
+/// The grammar's rules that these signs allow, applied until nothing new comes within the count of signs.
+fn texts(signs: &[&str]) -> Texts {
+    let there = |parts: &[&str]| parts.iter().all(|part| signs.contains(part));
+    let leaves = [("T", &["T"][..]), ("p3", &["p3"]), ("p31", &["p3", "1"])];
+    let leaves = leaves.iter().filter(|(_, parts)| there(parts));
+    let mut found: Texts = leaves.map(|(leaf, parts)| (leaf.to_string(), parts.len())).collect();
     loop {
         let mut made = found.clone();
-        for (one, signs) in &found {
-            made.insert(format!("!{one}"), signs + 1);
-            made.insert(format!("EX {one}"), signs + 1);
+        for (one, count) in &found {
+            let prefixes = PREFIXES.iter().filter(|prefix| there(&[**prefix]));
+            made.extend(prefixes.map(|prefix| (format!("{prefix}{one}"), count + 1)));
             for (other, more) in &found {
-                made.insert(format!("({one}&{other})"), signs + more + 3);
-                made.insert(format!("E({one} U {other})"), signs + more + 3);
+                let joints = JOINTS.iter().filter(|(first, middle)| there(&[*first, *middle]));
+                made.extend(joints.map(|(first, middle)| (format!("{first}{one}{middle}{other})"), count + more + 3)));
             }
         }
-        made.retain(|_, signs| *signs <= MOST_SIGNS);
+        made.retain(|_, count| *count <= MOST_SIGNS);
         if made.len() == found.len() {
             return found;
         }
@@ -35,11 +43,15 @@ fn texts() -> Texts {
 }
 
 pub fn short_texts() {
-    let texts = texts();
+    SIGNS.iter().for_each(|signs| short_texts_of(signs));
+}
+
+fn short_texts_of(signs: &[&str]) {
+    let texts = texts(signs);
     let mut accepted = BTreeSet::new();
     for count in 0..=MOST_SIGNS as u32 {
-        for choice in 0..SIGNS.len().pow(count) {
-            let sign = |place: u32| SIGNS[choice / SIGNS.len().pow(place) % SIGNS.len()];
+        for choice in 0..signs.len().pow(count) {
+            let sign = |place: u32| signs[choice / signs.len().pow(place) % signs.len()];
             let text: String = (0..count).map(sign).collect();
             let read = reading::read(text.as_bytes()).is_ok();
             assert_eq!(read, texts.contains_key(&text), "{text}");
@@ -54,9 +66,9 @@ fn lists() -> BTreeSet<Vec<u16>> {
     let mut found = vec![Formula::True, Formula::Atom(0), Formula::Atom(1), Formula::Atom(2)];
     for _ in 1..MOST_LISTED {
         let mut made = found.clone();
-        made.extend(found.iter().flat_map(|one| (0..2).map(|operator| one.clone().prefixed(operator))));
+        made.extend(found.iter().flat_map(|one| (0..PREFIXES.len()).map(|operator| one.clone().prefixed(operator))));
         for (one, other) in found.iter().flat_map(|one| found.iter().map(move |other| (one, other))) {
-            made.extend((0..3).map(|operator| one.clone().joined(operator, other.clone())));
+            made.extend((0..JOINTS.len()).map(|operator| one.clone().joined(operator, other.clone())));
         }
         made.retain(|formula| formula.size() <= MOST_LISTED);
         found = made;
@@ -64,12 +76,15 @@ fn lists() -> BTreeSet<Vec<u16>> {
     found.iter().map(Formula::nodes).collect()
 }
 
+/// The kinds and one that is none, each with three numbers for its left and its right one.
+const NODES: usize = 15 * 3 * 3;
+
 pub fn short_lists() {
     let lists = lists();
     let mut accepted = 0;
     for count in 0..=MOST_LISTED as u32 {
-        for choice in 0..72usize.pow(count) {
-            let node = |place: u32| choice / 72usize.pow(place) % 72;
+        for choice in 0..NODES.pow(count) {
+            let node = |place: u32| choice / NODES.pow(place) % NODES;
             let numbers = |node: usize| [node / 9, node / 3 % 3, node % 3].map(|number| number as u16);
             let list: Vec<u16> = (0..count).flat_map(|place| numbers(node(place))).collect();
             let whole = rebuilding::of_whole(&list).is_some();

@@ -1,7 +1,7 @@
 //! Random formulas of every shape, with a wanted number of nodes or with wanted atoms.
 
 use super::reading::{MOST_ATOMS, MOST_NODES};
-use super::tree::{Formula, JOINTS, PREFIXES};
+use super::tree::{self, Formula};
 use crate::random::Random;
 
 /// A formula with exactly so many nodes, its atoms any.
@@ -57,10 +57,10 @@ fn grown(random: &mut Random, mut parts: Vec<Formula>, mut prefixes: usize) -> F
         let part = parts.remove(place);
         let made = if random.below(joints + prefixes) < prefixes {
             prefixes -= 1;
-            part.prefixed(random.below(PREFIXES.len()))
+            part.prefixed(random.below(tree::prefixes(random.kinds)))
         } else {
             let right = parts.remove(place);
-            part.joined(random.below(JOINTS.len()), right)
+            part.joined(random.below(tree::joints(random.kinds)), right)
         };
         parts.insert(place, made);
     }

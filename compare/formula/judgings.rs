@@ -1,10 +1,11 @@
 //! Formulas judged on models: accepted ones with every verdict, and each refusal.
 
 use super::answering::judging_case;
-use super::tree::Formula;
-use super::{damaging, growing, reading};
+use super::tree::{self, Formula};
+use super::{damaging, growing, reading, wrong};
 use crate::generate::{count_out_of_range, sure};
 use crate::judge;
+use crate::kinds::Kinds;
 use crate::model::{text_of, Model};
 use crate::random::Random;
 use crate::{breaks, models, reader, spoiled};
@@ -57,7 +58,7 @@ pub fn refused(random: &mut Random, family: usize) -> Vec<u8> {
         }
         9 => {
             let beyond = random.between(model.atoms, reading::MOST_ATOMS as usize - 1);
-            formula = formula.joined(random.below(3), Formula::Atom(beyond as u16));
+            formula = formula.joined(random.below(tree::joints(random.kinds)), Formula::Atom(beyond as u16));
             (judging_case(formula.text().as_bytes(), &model.text()), 12)
         }
         10 => (judging_case(&wrong_text(random, text), &model.text()), 20),
@@ -66,17 +67,20 @@ pub fn refused(random: &mut Random, family: usize) -> Vec<u8> {
             (judging_case(growing::of_size(random, nodes).text().as_bytes(), &model.text()), 10)
         }
     };
+    if random.kinds.lifted(cause) {
+        return case;
+    }
     sure(case, cause)
 }
 
 fn wrong_text(random: &mut Random, mut text: Vec<u8>) -> Vec<u8> {
     if random.chance(50) {
-        text.push(random.pick(b" T)&!("));
+        text.push(random.pick(random.kinds.choose(&b" T)&!("[..], b" T)&!(|>")));
         return text;
     }
-    let one_line = |text: &&&[u8]| !text.contains(&b'\n');
-    let wrong: Vec<&[u8]> = damaging::WRONG.iter().filter(one_line).copied().collect();
-    random.pick(&wrong).to_vec()
+    let mut wrong = wrong::texts(random.kinds);
+    wrong.retain(|text| !text.contains(&b'\n'));
+    wrong.swap_remove(random.below(wrong.len()))
 }
 
 /// Model, tables and formula may each be wrong; which number comes first shows the order.
@@ -102,8 +106,9 @@ pub fn several(random: &mut Random) -> Vec<u8> {
     judging_case(&formula, &text)
 }
 
-/// Whether a case is accepted though the formula leaves an atom of the model unnamed.
-pub fn leaves_atom_unnamed(case: &[u8]) -> bool {
+/// Whether a case is accepted though the formula leaves an atom of the model unnamed; a formula with a kind beyond
+/// those that are drawn counts as refused, as it was when it was stored.
+pub fn leaves_atom_unnamed(kinds: Kinds, case: &[u8]) -> bool {
     let mut lines = case.splitn(3, |&byte| byte == b'\n').skip(1);
     let (Some(formula), Some(text)) = (lines.next(), lines.next()) else {
         return false;
@@ -112,5 +117,5 @@ pub fn leaves_atom_unnamed(case: &[u8]) -> bool {
         return false;
     };
     model.nodes = formula.nodes();
-    !model.names_every_atom() && judge::judge_whole(&model).is_ok()
+    kinds.hold(&model.nodes) && !model.names_every_atom() && judge::judge_whole(&model).is_ok()
 }

@@ -2,11 +2,12 @@
 
 use super::answering::{judging_case, part_case, printing_case, reading_case};
 use super::tree::Formula;
-use super::{damaging, edges, lists, reading};
+use super::{damaging, edges, lists, reading, wrong};
+use crate::kinds::Kinds;
 use std::collections::BTreeSet;
 
-const NODE_ROOM: usize = 192;
-const TEXT_ROOM: usize = 4_096;
+pub const NODE_ROOM: usize = 192;
+pub const TEXT_ROOM: usize = 4_096;
 
 /// Accepted formulas of every shape.
 #[rustfmt::skip]
@@ -19,28 +20,29 @@ pub const SHAPES: [&str; 40] = [
     "(((((T&p0)&p1)&p2)&p3)&EX !EX p4)",
 ];
 
-/// All stored cases, none of them twice.
+/// All cases stored before request 4, none of them twice.
 pub fn cases() -> Vec<Vec<u8>> {
-    let parts = [shapes(), wrong_texts(), wrong_lists(), parts(), at_limits(), rooms(), judged()];
-    let mut seen = BTreeSet::new();
-    parts.concat().into_iter().filter(|case| seen.insert(case.clone())).collect()
+    let shapes = SHAPES.iter().flat_map(|text| of_shape(text)).collect();
+    let at_limits = at_limits(&edges::long_before(), &edges::many_nodes_before());
+    once([shapes, wrong_texts(), wrong_lists(), parts(), at_limits, rooms(), judged()].concat())
 }
 
-/// Each shape read, its list printed, and each node's part printed too.
-fn shapes() -> Vec<Vec<u8>> {
-    let of_shape = |text: &&str| {
-        let list = lists::of(text);
-        let nodes = (0..list.len() / 3).map(|node| part_case(TEXT_ROOM, node, &list));
-        let whole = [reading_case(NODE_ROOM, text.as_bytes()), printing_case(TEXT_ROOM, &list)];
-        whole.into_iter().chain(nodes).collect::<Vec<_>>()
-    };
-    SHAPES.iter().flat_map(of_shape).collect()
+pub fn once(cases: Vec<Vec<u8>>) -> Vec<Vec<u8>> {
+    let mut seen = BTreeSet::new();
+    cases.into_iter().filter(|case| seen.insert(case.clone())).collect()
+}
+
+/// A shape read, its list printed, and each node's part printed too.
+pub fn of_shape(text: &str) -> Vec<Vec<u8>> {
+    let list = lists::of(text);
+    let nodes = (0..list.len() / 3).map(|node| part_case(TEXT_ROOM, node, &list));
+    let whole = [reading_case(NODE_ROOM, text.as_bytes()), printing_case(TEXT_ROOM, &list)];
+    whole.into_iter().chain(nodes).collect()
 }
 
 fn wrong_texts() -> Vec<Vec<u8>> {
-    let by_hand = damaging::WRONG.iter().map(|text| text.to_vec());
-    let by_bytes = damaging::TAKEN_APART.iter().flat_map(|text| damaging::byte_by_byte(text));
-    by_hand.chain(by_bytes).map(|text| reading_case(NODE_ROOM, &text)).collect()
+    let by_bytes = damaging::TAKEN_APART.iter().flat_map(|text| damaging::byte_by_byte(Kinds::First, text));
+    wrong::before().into_iter().chain(by_bytes).map(|text| reading_case(NODE_ROOM, &text)).collect()
 }
 
 fn wrong_lists() -> Vec<Vec<u8>> {
@@ -75,11 +77,11 @@ fn parts() -> Vec<Vec<u8>> {
 }
 
 /// The list of what is read at a limit is printed as well.
-fn at_limits() -> Vec<Vec<u8>> {
-    let mut found: Vec<Vec<u8>> = edges::long().iter().map(|text| reading_case(NODE_ROOM, text)).collect();
-    for text in edges::many_nodes() {
-        found.push(reading_case(NODE_ROOM, &text));
-        if let Ok(formula) = reading::read(&text) {
+pub fn at_limits(long: &[Vec<u8>], many_nodes: &[Vec<u8>]) -> Vec<Vec<u8>> {
+    let mut found: Vec<Vec<u8>> = long.iter().map(|text| reading_case(NODE_ROOM, text)).collect();
+    for text in many_nodes {
+        found.push(reading_case(NODE_ROOM, text));
+        if let Ok(formula) = reading::read(text) {
             let list = formula.nodes();
             found.push(printing_case(TEXT_ROOM, &list));
             found.extend([1, 2].map(|back| part_case(TEXT_ROOM, list.len() / 3 - back, &list)));

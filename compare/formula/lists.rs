@@ -1,7 +1,7 @@
 //! Node lists that are wrong in one place: number by number, by hand, and at random.
 
 use super::reading::{self, MOST_NODES};
-use super::tree::Formula;
+use super::tree::{Formula, JOINTS};
 use crate::random::Random;
 
 /// Formulas whose lists are taken apart number by number.
@@ -22,7 +22,7 @@ pub fn number_by_number(text: &str) -> Vec<Vec<u16>> {
         found.extend(list[place].checked_sub(1).map(changed));
         found.push(list[..place].to_vec());
     }
-    for place in (0..list.len()).step_by(3).filter(|&place| [3, 5, 6].contains(&list[place])) {
+    for place in (0..list.len()).step_by(3).filter(|&place| JOINTS.iter().any(|row| row.0 == list[place])) {
         let mut exchanged = list.clone();
         exchanged.swap(place + 1, place + 2);
         found.push(exchanged);
@@ -62,16 +62,19 @@ fn chain(nodes: usize) -> Vec<u16> {
     (1..nodes).fold(Formula::True, |formula, _| formula.prefixed(1)).nodes()
 }
 
+const FIRST_NUMBERS: [u16; 15] = [0, 1, 2, 3, 4, 5, 6, 7, 31, 32, 63, 64, 255, 256, 65_535];
+const NUMBERS: [u16; 22] = [0, 1, 2, 3, 4, 5, 6, 7, 8, 9, 10, 11, 12, 13, 14, 31, 32, 63, 64, 255, 256, 65_535];
+
 /// One place of a list changed at random; some text may still yield it.
 pub fn damage(random: &mut Random, list: &mut Vec<u16>) {
     if list.len() < 3 {
-        list.push(random.below(8) as u16);
+        list.push(random.below(random.kinds.greatest() as usize + 2) as u16);
         return;
     }
     let (place, node) = (random.below(list.len()), random.below(list.len() / 3));
     match random.weighted(&[25, 15, 10, 10, 10, 10, 10, 5, 5]) {
         0 => list[place] = list[place].saturating_add_signed(random.pick(&[1, -1])),
-        1 => list[place] = random.pick(&[0, 1, 2, 3, 4, 5, 6, 7, 31, 32, 63, 64, 255, 256, 65_535]),
+        1 => list[place] = random.pick(random.kinds.choose(&FIRST_NUMBERS[..], &NUMBERS)),
         2 => list.swap(3 * node + 1, 3 * node + 2),
         3 => list[3 * node + 2] = list[3 * node + 1],
         4 => drop(list.splice(3 * node..3 * node, [0, 0, 0])),

@@ -11,6 +11,7 @@
 
 use super::answering::{part_case, printing_case, reading_case};
 use super::{damaging, edges, growing, judgings, lists, reading};
+use crate::kinds::Kinds;
 use crate::models;
 use crate::random::Random;
 
@@ -18,11 +19,15 @@ use crate::random::Random;
 const BEGIN: u64 = 1 << 32;
 
 /// Case number `number` of a seed; an accepted model with an atom that the formula leaves unnamed is drawn again.
-pub fn case(seed: u64, number: usize) -> Vec<u8> {
-    let mut random = Random::of_case(seed, BEGIN + number as u64);
+pub fn case(kinds: Kinds, seed: u64, number: usize) -> Vec<u8> {
+    drawn(Random::of_case(seed, BEGIN + number as u64).drawing(kinds), number)
+}
+
+/// What the mixture has at this number, whatever the random numbers are.
+pub fn drawn(mut random: Random, number: usize) -> Vec<u8> {
     loop {
         let case = draw(&mut random, number);
-        if case[0] != b'Q' || !judgings::leaves_atom_unnamed(&case) {
+        if case[0] != b'Q' || !judgings::leaves_atom_unnamed(random.kinds, &case) {
             return case;
         }
     }
@@ -110,11 +115,11 @@ fn at_limit(random: &mut Random) -> Vec<u8> {
     let room = node_room(random);
     match random.below(6) {
         0 => {
-            let texts = edges::long();
+            let texts = edges::long(random.kinds);
             reading_case(room, &texts[random.below(texts.len())])
         }
         1 => {
-            let texts = edges::many_nodes();
+            let texts = edges::many_nodes(random.kinds);
             reading_case(room, &texts[random.below(texts.len())])
         }
         2 => reading_case(room, growing::of_size(random, nodes).text().as_bytes()),

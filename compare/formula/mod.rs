@@ -9,10 +9,14 @@ mod judgings;
 pub mod listed;
 mod lists;
 pub mod mixture;
+mod near;
 mod reading;
 mod rebuilding;
 mod selftest;
 mod tree;
 mod walking;
+pub mod wider;
+mod wider_selftest;
+mod wrong;
 
 pub use selftest::run as selftest;

@@ -1,7 +1,7 @@
 //! The grammar's examples by hand, and round trips between text, tree and list.
 
 use super::answering::{answer, judging_case, part_case, printing_case, reading_case};
-use super::{damaging, every, growing, listed, lists, reading};
+use super::{damaging, every, growing, listed, lists, reading, wider, wider_selftest};
 use crate::random::Random;
 
 pub fn run() {
@@ -14,6 +14,7 @@ pub fn run() {
     damaged();
     every::short_texts();
     every::short_lists();
+    wider_selftest::run();
 }
 
 fn answered(case: Vec<u8>) -> String {
@@ -50,11 +51,8 @@ fn by_hand() {
     }
 }
 
-/// Whatever stands in the table of wrong texts, and a list without a text, is refused.
+/// A list without a text is refused.
 fn outside() {
-    for text in damaging::WRONG {
-        assert_eq!(reading::read(text).err(), Some(20), "{}", String::from_utf8_lossy(text));
-    }
     for nodes in
         [&[][..], &[0], &[1, 32, 0], &[0, 0, 1], &[2, 0, 0], &[7, 0, 0], &[0, 0, 0, 0, 0, 0], &[0, 0, 0, 3, 0, 0]]
     {
@@ -109,7 +107,8 @@ fn judging() {
 }
 
 fn round_trips() {
-    for text in listed::SHAPES.iter().chain(&damaging::TAKEN_APART).chain(&lists::TAKEN_APART) {
+    let first = listed::SHAPES.iter().chain(&damaging::TAKEN_APART).chain(&lists::TAKEN_APART);
+    for text in first.chain(&wider::SHAPES).chain(&wider::TAKEN_APART).chain(&wider::LISTS_TAKEN_APART) {
         assert_eq!(&reading::read(text.as_bytes()).unwrap().text(), text);
         assert_eq!(print(&lists::of(text)), format!("answer=0\ntext={text}\n"));
     }

@@ -1,10 +1,23 @@
 //! A formula as a tree; its text and its node list are written down straight from the tree.
 
-/// Kind number and sign of each operator that stands before its operand.
-pub const PREFIXES: [(u16, &str); 2] = [(2, "!"), (4, "EX ")];
+use crate::kinds::Kinds;
+
+/// Kind number and sign of each operator that stands before its operand, the first kinds' first.
+pub const PREFIXES: [(u16, &str); 7] =
+    [(2, "!"), (4, "EX "), (9, "AX "), (10, "EF "), (11, "AF "), (12, "EG "), (13, "AG ")];
 
 /// Kind number, first and middle sign of each operator in brackets; the last sign is the closing bracket.
-pub const JOINTS: [(u16, &str, &str); 3] = [(3, "(", "&"), (5, "E(", " U "), (6, "A(", " U ")];
+pub const JOINTS: [(u16, &str, &str); 5] =
+    [(3, "(", "&"), (5, "E(", " U "), (6, "A(", " U "), (7, "(", "|"), (8, "(", ">")];
+
+/// How many of the prefixes are among these kinds.
+pub fn prefixes(kinds: Kinds) -> usize {
+    PREFIXES.iter().filter(|row| row.0 <= kinds.greatest()).count()
+}
+
+pub fn joints(kinds: Kinds) -> usize {
+    JOINTS.iter().filter(|row| row.0 <= kinds.greatest()).count()
+}
 
 /// Operators are named by their places in the two tables above.
 #[derive(Clone, Debug, PartialEq)]

@@ -19,18 +19,28 @@ fn row_of(formula: &Formula, model: &Model, next: &[Vec<usize>], walks: &[Vec<Ve
         Formula::Atom(number) => all.map(|state| model.labels[state * model.atoms + *number as usize]).collect(),
         Formula::Prefixed(operator, operand) => {
             let values = of(operand);
-            let greatest = |list: &Vec<usize>| list.iter().map(|&state| values[state]).max().unwrap();
+            let after = |state: usize| next[state].iter().map(|&state| values[state]);
+            let greatest = |state: usize| walks[state].iter().map(|walk| walks::greatest_value(walk, &values));
+            let least = |state: usize| walks[state].iter().map(|walk| walks::least_value(walk, &values));
             match PREFIXES[*operator].1 {
                 "!" => values.iter().map(|value| TRUE - value).collect(),
-                _ => next.iter().map(greatest).collect(),
+                "EX " => all.map(|state| after(state).max().unwrap()).collect(),
+                "AX " => all.map(|state| after(state).min().unwrap()).collect(),
+                "EF " => all.map(|state| greatest(state).max().unwrap()).collect(),
+                "AF " => all.map(|state| greatest(state).min().unwrap()).collect(),
+                "EG " => all.map(|state| least(state).max().unwrap()).collect(),
+                _ => all.map(|state| least(state).min().unwrap()).collect(),
             }
         }
         Formula::Joined(operator, left, right) => {
             let (left, right) = (of(left), of(right));
             let values = |state: usize| walks[state].iter().map(|walk| walks::until_value(walk, &left, &right));
-            match JOINTS[*operator].1 {
-                "(" => all.map(|state| left[state].min(right[state])).collect(),
-                "E(" => all.map(|state| values(state).max().unwrap()).collect(),
+            let (_, first, middle) = JOINTS[*operator];
+            match (first, middle) {
+                (_, "&") => all.map(|state| left[state].min(right[state])).collect(),
+                (_, "|") => all.map(|state| left[state].max(right[state])).collect(),
+                (_, ">") => all.map(|state| right[state].max(TRUE - left[state])).collect(),
+                ("E(", _) => all.map(|state| values(state).max().unwrap()).collect(),
                 _ => all.map(|state| values(state).min().unwrap()).collect(),
             }
         }

@@ -16,10 +16,27 @@ answered() { # STATUS ANSWER WORDS ARGUMENTS
     call "$witness" model "${@:4}" >"$out"
     status "$1" && says "$3" && no_scratch
 }
+answered_of() { # GRAPH STATUS ANSWER WORDS ARGUMENTS
+    graph=$1
+    answered "${@:2}"
+}
+uses() { # KIND WORDS-OF-LEFT WORDS-OF-RIGHT: what is said of a 1 that can't stand there
+    refused 12 "${graph/node=5,0,0/node=$1,1,0}" "line 11, node=$1,1,0 (node 1): $2" &&
+        refused 12 "${graph/node=5,0,0/node=$1,0,1}" "line 11, node=$1,0,1 (node 1): $3"
+}
+known_kinds() { # what the words know of each kind is what the rules have
+    # shellcheck disable=SC2016 # a $ of awk's
+    each=$(awk -F ' *[|] *' '
+        function use(cell) { return cell == "unused" ? "-" : cell == "an atom" ? "a" : cell == "a node" ? "n" : "?" }
+        /^## / { on = $0 == "## A model" }
+        on && $2 ~ /^[0-9]+$/ { print use($4) use($5) }' <"$house/docs/RULES.md" | tr '\n' ' ')
+    grep -qF "split(\"${each% }\", " "$house/scripts/cause.awk" || { echo "the rules have: $each"; return 1; }
+}
 helps() { call "$1" --help >"$out"; status 0 && grep -q "256 states" "$out" && grep -q "32,768 bytes" "$out"; }
+helps_of_paths() { helps "$witness" && grep -qF "'EF p1'" "$out" && grep -qF "or 10." "$out" && grep -qF "no exists-until and no EF" "$out"; }
 
 try "help names the limits, ./desk" helps "$desk"
-try "help names the limits, ./witness" helps "$witness"
+try "help names the limits and what has paths, ./witness" helps_of_paths
 
 graph='states=2\natoms=1\ninit=10\nlabel=T\nlabel=F\nedges=2\nedge=0,1\nedge=1,1\nnodes=2\nnode=1,0,0\nnode=5,0,0\n'
 try "refusal 1" refused 1 'states=300\n' "1 to 256 states, here 300"
@@ -30,10 +47,13 @@ try "refusal 7" refused 7 "${graph/edge=1,1/edge=1,2}" "line 8, edge=1,2: states
 try "refusal 8" refused 8 "${graph/edge=1,1/edge=0,0}" "line 8, edge=0,0: it doesn't come after edge=0,1"
 try "refusal 9" refused 9 "${graph/edge=0,1/edge=1,0}" "state 0 has no transition out"
 try "refusal 10" refused 10 "${graph/nodes=2/nodes=65}" "1 to 64 nodes, here 65"
-try "refusal 11" refused 11 "${graph/node=1,0,0/node=7,0,0}" "line 10, node=7,0,0 (node 0): kinds are 0 to 6"
+try "refusal 11" refused 11 "${graph/node=1,0,0/node=14,0,0}" "line 10, node=14,0,0 (node 0): kinds are 0 to 13"
 try "refusal 12, an atom" refused 12 "${graph/node=1,0,0/node=1,1,0}" "line 10, node=1,1,0 (node 0): 1 is no atom"
 try "refusal 12, a node" refused 12 "${graph/node=5,0,0/node=5,0,1}" "line 11, node=5,0,1 (node 1): 1 is no earlier node"
 try "refusal 12, an unused number" refused 12 "${graph/node=1,0,0/node=1,0,3}" "the number 3 is unused here"
+for kind in 3 5 6 7 8; do try "refusal 12, kind $kind" uses "$kind" "1 is no earlier node" "1 is no earlier node"; done
+for kind in 2 4 9 10 11 12 13; do try "refusal 12, kind $kind" uses "$kind" "1 is no earlier node" "the number 1 is unused here"; done
+try "the kinds that the words know are those of the rules" known_kinds
 try "refusal 19, a wrong key" refused 19 'states=2\natom=1\n' "line 2 breaks the form; due there: atoms="
 try "refusal 19, a short line" refused 19 'states=3\natoms=1\ninit=10\n' "for each state (3), here 2"
 try "refusal 19, a carriage return" refused 19 'states=3\r\n' "line 1 ends in a carriage return"
@@ -45,4 +65,9 @@ try "./witness, a wrong count" asked "'all' is no count" listed 0 0 true all
 try "./witness, too few words" asked "here are 2 words" 0 0
 try "./witness, no such state" answered 1 answer=15 "states are 0 to 1, here 9" 1 9 true
 try "./witness, no such node" answered 2 "no question: the model has no such node" "nodes are 0 to 1, here 7" 7 0 true
-try "./witness, a node of another kind" answered 2 "no question: this node is no exists-until" "node 0 is of kind 1; exists-until nodes (kind 5) of this model: 1" 0 0 true
+no_node="no question: this node is no exists-until and no EF"
+try "./witness, a node of another kind" answered 2 "$no_node" "$no_node; node 0 is of kind 1; exists-until and EF nodes (kinds 5 and 10): 1" 0 0 true
+more=${graph/nodes=2/nodes=4}'node=13,0,0\nnode=10,0,0\n'
+try "./witness, a node of another kind, beside an EF" answered_of "$more" 2 "$no_node" "node 2 is of kind 13; exists-until and EF nodes (kinds 5 and 10): 1, 3" 2 0 true
+more=${graph/node=5,0,0/node=11,0,0}
+try "./witness, a node of another kind, and no other" answered_of "$more" 2 "$no_node" "node 1 is of kind 11; exists-until and EF nodes (kinds 5 and 10): none" 1 0 true

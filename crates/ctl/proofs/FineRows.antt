@@ -10,6 +10,7 @@ use lib.Seq.{getD-at}
 use Rattle.ctl.specs.Inside.{Judgeable, RowsFit, nodeRowAt, operandRow}
 use Rattle.model.specs.Kinds.{Kind, kindOf}
 use Rattle.model.specs.Model.{Model, kindAt, leftAt, rightAt, nodeCount}
+use Rattle.ctl.specs.Operators.{RowFine}
 use Rattle.ctl.specs.Nodes.{nodeRow, nodeValue}
 use Rattle.ctl.specs.Rows.{rowsFrom, storedRows}
 use Rattle.values.specs.Rows.{rowBegin, rowSize, storedRow}
@@ -17,8 +18,8 @@ use Rattle.kripke.specs.Until.{next}
 use Rattle.values.specs.Values.{neg, top}
 use Rattle.lists.specs.Entries.{All, at}
 use Rattle.ctl.proofs.NodeLists.{firstRows, rowMore, rows-count, rows-next, rows-none, rows-whole}
-use Rattle.ctl.proofs.Related.{Kleene, node-related, rows-related, small}
-use Rattle.ctl.proofs.Spaces.{RowFine, operand-in-space, rows-fit, space-length, space-more, space-none}
+use Rattle.ctl.proofs.Related.{equal, Kleene, node-related, rows-related, small}
+use Rattle.ctl.proofs.Spaces.{operand-in-space, rows-fit, space-length, space-more, space-none}
 use Rattle.kripke.proofs.Least.{least}
 use Rattle.kripke.proofs.Related.{Kept}
 use Rattle.lists.proofs.Entries.{all-from, all-get}
@@ -39,13 +40,6 @@ pub rows-fine : (m : Model) → ((i : ℕ) → at (m .labels) i ≤ top) → (ns
 rows-fine m h ns =
     let r = rows-related (λ (a b : ℕ). a ≤ top) small m (m .labels) h ns in
     all-from (RowFine (m .states)) [] (rowsFrom m [] ns) (λ k l. record { size = all-get (λ (row : List ℕ). length row ≡ m .states) [] (rowsFrom m [] ns) (rows-wide m [] tt ns) k l; small = r .here k })
-
--- equal values give equal values
-equal-kept : Kept (λ (a b : ℕ). a ≡ b)
-equal-kept = record { none = refl; least = λ a b x y e h. ap₂ min e h; greatest = λ a b x y e h. ap₂ max e h }
-
-equal : Kleene (λ (a b : ℕ). a ≡ b)
-equal = record { kept = equal-kept; true-true = refl; turned = λ a b e. ap neg e }
 
 pub node-row-same : (m : Model) (k : Kind) (a : ℕ) (L M R Q : List ℕ) → ((s : ℕ) → at L s ≡ at M s) → ((s : ℕ) → at R s ≡ at Q s) → tab (nodeValue m k a L R) (m .states) ≡ nodeRow m k a M Q
 unfolding nodeRow

@@ -1,5 +1,5 @@
 -- What a space holds after judging: each row where it begins, value by value, and beyond the last row what was there.
-use mathlib.Core.Path.{_≡_, sym, ap, ap₂, _∙_, subst}
+use mathlib.Core.Path.{_≡_, refl, sym, ap, ap₂, _∙_, subst}
 use Prim.Native.Nat.{ℕ, _≤_, _<_}
 use mathlib.Core.List.{List, []}
 use mathlib.Core.Bool.{false, not}
@@ -12,20 +12,23 @@ use Rattle.lists.specs.Entries.{All, at}
 use Rattle.lists.specs.Rows.{fill}
 use Rattle.values.specs.Limits.{mostStates}
 use Rattle.values.specs.Rows.{badRow, held, rowBegin, rowIn, rowValues}
-use Rattle.kripke.specs.Until.{next, until}
-use Rattle.model.specs.Kinds.{bound, kindOf, uses}
+use Rattle.kripke.specs.Until.{everywhere, next, until}
+use Rattle.model.specs.Kinds.{Use, aNode, bound, kindOf, uses}
 use Rattle.model.specs.Model.{Model, kindAt, leftAt, nodeCount, rightAt}
 use Rattle.ctl.specs.Answers.{numberDue}
 use Rattle.ctl.specs.Inside.{operandRow}
+use Rattle.ctl.specs.Operators.{RowFine}
 use Rattle.ctl.specs.Nodes.{nodeRow, nodeValue}
 use Rattle.ctl.specs.Rows.{rowsOf, storedRows, verdictAt}
 use Rattle.ctl.proofs.FineRows.{rows-fine}
 use Rattle.ctl.proofs.NodeLists.{row-of-node, rows-count, rows-whole}
-use Rattle.ctl.proofs.Spaces.{RowFine, operand-in-space, rows-fit, stored-length, value-in-space}
+use Rattle.ctl.proofs.Spaces.{operand-in-space, rows-fit, stored-length, value-in-space}
 use Rattle.kripke.proofs.Refusals.{accepted}
+use Rattle.lists.proofs.Entries.{all-get}
 use Rattle.lists.proofs.Rows.{tab-at}
 use Rattle.lists.proofs.Tests.{or-neither}
 use Rattle.model.proofs.Fine.{judge-fine}
+use Rattle.model.proofs.KindLaws.{right-within}
 
 module _ (m : Model) (before : List ℕ) (z : numberDue m before ≡ 0) (after : List ℕ) (e : after ≡ fill (storedRows (rowsOf m)) before) where
   abbrev S : ℕ
@@ -63,15 +66,14 @@ module _ (m : Model) (before : List ℕ) (z : numberDue m before ≡ 0) (after :
       let same = operand-in-space S (rowsOf m) all-fine before room k in
       (subst (λ (v : List ℕ). badRow S (rowIn S v k) ≡ false) (sym e) (fit .stand k (rw as-many h)), subst (λ (v : List ℕ). rowValues S (rowIn S v k) ≡ getD (rowsOf m) k []) (sym e) (rw (lt-ltb k (length (rowsOf m)) (rw as-many h)) at same))
 
+  pub row-kept : (k : ℕ) → k < nodeCount ns → RowFine S (rowValues S (rowIn S after k))
+  row-kept k h = subst (RowFine S) (sym (row-held k h .1)) (all-get (RowFine S) [] (rowsOf m) all-fine k (rw as-many h))
+
   -- the numbers of a node stay below their bounds
   node-bounds : (k : ℕ) → k < nodeCount ns → (leftAt ns k < bound (uses (kindOf (kindAt ns k)) .0) (m .atoms) k) × (rightAt ns k < bound (uses (kindOf (kindAt ns k)) .1) (m .atoms) k)
   node-bounds k h =
       let p = or-neither (not (ltb (leftAt ns k) (bound (uses (kindOf (kindAt ns k)) .0) (m .atoms) k))) (not (ltb (rightAt ns k) (bound (uses (kindOf (kindAt ns k)) .1) (m .atoms) k))) (judge-fine m (length before) z .operands k h) in
       (ltb-true _ _ (not-false _ (p .0)), ltb-true _ _ (not-false _ (p .1)))
-
-  -- the numbers of a node of a known kind stay below the bounds of that kind
-  kind-bounds : (n k : ℕ) → k < nodeCount ns → kindAt ns k ≡ n → (leftAt ns k < bound (uses (kindOf n) .0) (m .atoms) k) × (rightAt ns k < bound (uses (kindOf n) .1) (m .atoms) k)
-  kind-bounds n k h e = subst (λ (x : ℕ). (leftAt ns k < bound (uses (kindOf x) .0) (m .atoms) k) × (rightAt ns k < bound (uses (kindOf x) .1) (m .atoms) k)) e (node-bounds k h)
 
   -- what the space holds for a node is its value from the rows that it holds for its two numbers, where these are earlier nodes
   node-held : (n k s : ℕ) → k < nodeCount ns → s < S → kindAt ns k ≡ n → leftAt ns k < k → rightAt ns k < k → held S after k s ≡ nodeValue m (kindOf n) (leftAt ns k) (rowValues S (rowIn S after (leftAt ns k))) (rowValues S (rowIn S after (rightAt ns k))) s
@@ -85,12 +87,25 @@ module _ (m : Model) (before : List ℕ) (z : numberDue m before ≡ 0) (after :
       ∙ ap (λ (x : ℕ). nodeValue m (kindOf x) (leftAt ns k) (getD (rowsOf m) (leftAt ns k) []) (getD (rowsOf m) (rightAt ns k) []) s) e
       ∙ ap₂ (λ (L R : List ℕ). nodeValue m (kindOf n) (leftAt ns k) L R s) (sym left) (sym right)
 
+  -- so it is for every kind whose left number names a node
+  pub part-held : (n k s : ℕ) → k < nodeCount ns → s < S → kindAt ns k ≡ n → uses (kindOf n) .0 ≡ aNode → (leftAt ns k < k) × (rightAt ns k < k) × (held S after k s ≡ nodeValue m (kindOf n) (leftAt ns k) (rowValues S (rowIn S after (leftAt ns k))) (rowValues S (rowIn S after (rightAt ns k))) s)
+  part-held n k s h l e u =
+      let b = subst (λ (x : ℕ). (leftAt ns k < bound (uses (kindOf x) .0) (m .atoms) k) × (rightAt ns k < bound (uses (kindOf x) .1) (m .atoms) k)) e (node-bounds k h) in
+      let left : leftAt ns k < k = subst (λ (x : Use). leftAt ns k < bound x (m .atoms) k) u (b .0) in
+      let right : rightAt ns k < k = omega (arith, b .1, right-within n (m .atoms) k) in
+      (left, right, node-held n k s h l e left right)
+
   -- EX: the greatest value among the successors, of the row that it holds for the part
   pub next-held : (k s : ℕ) → k < nodeCount ns → s < S → kindAt ns k ≡ 4 → (leftAt ns k < k) × (held S after k s ≡ next false (m .transitions) (rowValues S (rowIn S after (leftAt ns k))) s)
   unfolding kindOf nodeValue
-  next-held k s h l four = let b = kind-bounds 4 k h four in (b .0, node-held 4 k s h l four (b .0) (omega arith))
+  next-held k s h l four = let p = part-held 4 k s h l four refl in (p .0, p .2)
 
   -- E until: over the rows that it holds for the two parts
   pub until-held : (k s : ℕ) → k < nodeCount ns → s < S → kindAt ns k ≡ 5 → (leftAt ns k < k) × (rightAt ns k < k) × (held S after k s ≡ until false (m .transitions) (rowValues S (rowIn S after (leftAt ns k))) (rowValues S (rowIn S after (rightAt ns k))) S s)
   unfolding kindOf nodeValue
-  until-held k s h l five = let b = kind-bounds 5 k h five in (b .0, b .1, node-held 5 k s h l five (b .0) (b .1))
+  until-held k s h l five = part-held 5 k s h l five refl
+
+  -- EF: an E until with true on the left
+  pub eventually-held : (k s : ℕ) → k < nodeCount ns → s < S → kindAt ns k ≡ 10 → (leftAt ns k < k) × (held S after k s ≡ until false (m .transitions) (everywhere S) (rowValues S (rowIn S after (leftAt ns k))) S s)
+  unfolding kindOf nodeValue
+  eventually-held k s h l ten = let p = part-held 10 k s h l ten refl in (p .0, p .2)

@@ -13,7 +13,7 @@ use Rattle.kripke.specs.Answers.{transitionsRead}
 use Rattle.kripke.specs.Inside.{Ready}
 use Rattle.kripke.specs.declared.graph.Transitions.{Transitions}
 use Rattle.model.specs.Answers.{examined}
-use Rattle.model.specs.Kinds.{AND, ATOM, AU, EU, EX, Kind, NOT, TRUE, kindOf}
+use Rattle.model.specs.Kinds.{AF, AG, AND, ATOM, AU, AX, EF, EG, EU, EX, IMPLIES, Kind, NOT, OR, TRUE, kindOf}
 use Rattle.model.specs.Model.{Model, nodeCount}
 use Rattle.model.specs.Refusals.{judgeRefusal}
 use Rattle.model.specs.declared.Examined.{Examined}
@@ -43,6 +43,13 @@ row-structure m AND a L R = refl
 row-structure m EX a L R = refl
 row-structure m EU a L R = refl
 row-structure m AU a L R = refl
+row-structure m OR a L R = refl
+row-structure m IMPLIES a L R = refl
+row-structure m AX a L R = refl
+row-structure m EF a L R = refl
+row-structure m AF a L R = refl
+row-structure m EG a L R = refl
+row-structure m AG a L R = refl
 
 rows-structure : (m : Model) (rows : List (List ℕ)) (ns : List ℕ) → rowsFrom (structure m) rows ns ≡ rowsFrom m rows ns
 unfolding rowsFrom

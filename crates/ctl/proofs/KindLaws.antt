@@ -1,34 +1,53 @@
 -- The kinds that go by their operands' values at the same state, by their numbers.
-use mathlib.Core.Path.{_≡_, refl}
-use Prim.Native.Nat.{ℕ, zero, suc}
+use mathlib.Core.Path.{_≡_, refl, ap, subst}
+use Prim.Native.Nat.{ℕ}
 use mathlib.Core.List.{List}
-use Rattle.model.specs.Kinds.{kindOf}
+use Rattle.model.specs.Kinds.{Kind, TRUE, kindOf}
 use Rattle.model.specs.Model.{Model}
+use Rattle.model.proofs.KindLaws.{each-kind}
 use Rattle.ctl.specs.Inside.{plainValue}
 use Rattle.ctl.specs.Nodes.{nodeValue}
 use Rattle.values.specs.Values.{top}
 use Rattle.lists.specs.Entries.{at}
 
--- the plain kinds: not, and, and true for the rest
-pub plain-rest : (k l r : ℕ) → (k ≡ 2 → ⊥) → (k ≡ 3 → ⊥) → top ≡ plainValue (kindOf k) l r
+-- the plain kinds: not, and, or, implies, and true for the rest
+pub plain-rest : (l r k : ℕ) → (k ≡ 2 → ⊥) → (k ≡ 3 → ⊥) → (k ≡ 7 → ⊥) → (k ≡ 8 → ⊥) → top ≡ plainValue (kindOf k) l r
 unfolding kindOf plainValue
-plain-rest zero l r p q = refl
-plain-rest (suc zero) l r p q = refl
-plain-rest (suc (suc zero)) l r p q = absurd (p refl)
-plain-rest (suc (suc (suc zero))) l r p q = absurd (q refl)
-plain-rest (suc (suc (suc (suc zero)))) l r p q = refl
-plain-rest (suc (suc (suc (suc (suc zero))))) l r p q = refl
-plain-rest (suc (suc (suc (suc (suc (suc zero)))))) l r p q = refl
-plain-rest (suc (suc (suc (suc (suc (suc (suc k))))))) l r p q = refl
+plain-rest l r =
+    each-kind (λ k. (k ≡ 2 → ⊥) → (k ≡ 3 → ⊥) → (k ≡ 7 → ⊥) → (k ≡ 8 → ⊥) → top ≡ plainValue (kindOf k) l r)
+    (λ n a o i. refl)
+    (λ n a o i. refl)
+    (λ n a o i. absurd (n refl))
+    (λ n a o i. absurd (a refl))
+    (λ n a o i. refl)
+    (λ n a o i. refl)
+    (λ n a o i. refl)
+    (λ n a o i. absurd (o refl))
+    (λ n a o i. absurd (i refl))
+    (λ n a o i. refl)
+    (λ n a o i. refl)
+    (λ n a o i. refl)
+    (λ n a o i. refl)
+    (λ n a o i. refl)
+    (λ k e n a o i. ap (λ (x : Kind). plainValue x l r) e)
 
--- a kind that is none of atom, EX, E and A is plain
-pub plain-node : (m : Model) (k a : ℕ) (L R : List ℕ) (s : ℕ) → (k ≡ 1 → ⊥) → (k ≡ 4 → ⊥) → (k ≡ 5 → ⊥) → (k ≡ 6 → ⊥) → plainValue (kindOf k) (at L s) (at R s) ≡ nodeValue m (kindOf k) a L R s
+-- a kind that is none of atom, EX, E, A and those from AX on is plain
+pub plain-node : (m : Model) (a : ℕ) (L R : List ℕ) (s k : ℕ) → (k ≡ 1 → ⊥) → (k ≡ 4 → ⊥) → (k ≡ 5 → ⊥) → (k ≡ 6 → ⊥) → (k ≡ 9 → ⊥) → (k ≡ 10 → ⊥) → (k ≡ 11 → ⊥) → (k ≡ 12 → ⊥) → (k ≡ 13 → ⊥) → plainValue (kindOf k) (at L s) (at R s) ≡ nodeValue m (kindOf k) a L R s
 unfolding kindOf plainValue nodeValue
-plain-node m zero a L R s p q r t = refl
-plain-node m (suc zero) a L R s p q r t = absurd (p refl)
-plain-node m (suc (suc zero)) a L R s p q r t = refl
-plain-node m (suc (suc (suc zero))) a L R s p q r t = refl
-plain-node m (suc (suc (suc (suc zero)))) a L R s p q r t = absurd (q refl)
-plain-node m (suc (suc (suc (suc (suc zero))))) a L R s p q r t = absurd (r refl)
-plain-node m (suc (suc (suc (suc (suc (suc zero)))))) a L R s p q r t = absurd (t refl)
-plain-node m (suc (suc (suc (suc (suc (suc (suc k))))))) a L R s p q r t = refl
+plain-node m a L R s =
+    each-kind (λ k. (k ≡ 1 → ⊥) → (k ≡ 4 → ⊥) → (k ≡ 5 → ⊥) → (k ≡ 6 → ⊥) → (k ≡ 9 → ⊥) → (k ≡ 10 → ⊥) → (k ≡ 11 → ⊥) → (k ≡ 12 → ⊥) → (k ≡ 13 → ⊥) → plainValue (kindOf k) (at L s) (at R s) ≡ nodeValue m (kindOf k) a L R s)
+    (λ q1 q4 q5 q6 q9 q10 q11 q12 q13. refl)
+    (λ q1 q4 q5 q6 q9 q10 q11 q12 q13. absurd (q1 refl))
+    (λ q1 q4 q5 q6 q9 q10 q11 q12 q13. refl)
+    (λ q1 q4 q5 q6 q9 q10 q11 q12 q13. refl)
+    (λ q1 q4 q5 q6 q9 q10 q11 q12 q13. absurd (q4 refl))
+    (λ q1 q4 q5 q6 q9 q10 q11 q12 q13. absurd (q5 refl))
+    (λ q1 q4 q5 q6 q9 q10 q11 q12 q13. absurd (q6 refl))
+    (λ q1 q4 q5 q6 q9 q10 q11 q12 q13. refl)
+    (λ q1 q4 q5 q6 q9 q10 q11 q12 q13. refl)
+    (λ q1 q4 q5 q6 q9 q10 q11 q12 q13. absurd (q9 refl))
+    (λ q1 q4 q5 q6 q9 q10 q11 q12 q13. absurd (q10 refl))
+    (λ q1 q4 q5 q6 q9 q10 q11 q12 q13. absurd (q11 refl))
+    (λ q1 q4 q5 q6 q9 q10 q11 q12 q13. absurd (q12 refl))
+    (λ q1 q4 q5 q6 q9 q10 q11 q12 q13. absurd (q13 refl))
+    (λ k e q1 q4 q5 q6 q9 q10 q11 q12 q13. subst (λ (x : Kind). plainValue x (at L s) (at R s) ≡ nodeValue m x a L R s) e refl)

@@ -5,11 +5,13 @@ pub mod Operands
 pub mod Spaces
 pub mod NodeLists
 pub mod Related
+pub mod TurnedRows
 pub mod PutRow
 pub mod OverInitial
 pub mod UntilRows
 pub mod FineRows
 pub mod JudgeLaws
+pub mod Operators
 pub mod Held
 pub mod OneAnswer
 pub mod Unknowns

@@ -25,7 +25,7 @@ zero-at (suc n) zero = refl
 zero-at (suc n) (suc s) = zero-at n s
 
 -- zeros behind a row change no value
-behind-zeros : (xs : List ℕ) (n s : ℕ) → at (xs ++ replicate n 0) s ≡ at xs s
+pub behind-zeros : (xs : List ℕ) (n s : ℕ) → at (xs ++ replicate n 0) s ≡ at xs s
 behind-zeros [] n s = zero-at n s
 behind-zeros (x ∷ xs) n zero = refl
 behind-zeros (x ∷ xs) n (suc s) = behind-zeros xs n s

@@ -1,23 +1,24 @@
 -- A relation between values that not, and, or keep holds of all rows and of the verdicts of two models if it holds of their labels.
-use mathlib.Core.Path.{_≡_, refl, _∙_}
+use mathlib.Core.Path.{_≡_, refl, ap, _∙_}
 use Prim.Native.Nat.{ℕ, zero, suc, _+_, _*_, _-_, _≤_, _<_}
 use mathlib.Core.List.{List, [], _∷_, _++_}
-use mathlib.Core.Bool.{true, false}
+use mathlib.Core.Bool.{Bool, true, false}
 use mathlib.Core.Logic.{⊎-elim}
 use native.Mathlib.Omega.{arith}
-use lib.ListN.{length, getD, length-append, List·getD-eq-default}
+use lib.ListN.{length, getD, length-append}
 use Rattle.model.specs.Labels.{withLabels}
 use Rattle.model.specs.Model.{Model, nodeCount}
-use Rattle.model.specs.Kinds.{AND, ATOM, AU, EU, EX, Kind, NOT, TRUE, kindOf}
+use Rattle.model.specs.Kinds.{AF, AG, AND, ATOM, AU, AX, EF, EG, EU, EX, IMPLIES, Kind, NOT, OR, TRUE, kindOf}
+use Rattle.kripke.specs.Until.{everywhere, opposite, until}
 use Rattle.ctl.specs.Nodes.{nodeRow, nodeValue}
 use Rattle.ctl.specs.Rows.{modelVerdict, rowsFrom, rowsOf}
 use Rattle.values.specs.Values.{neg, top}
 use Rattle.lists.specs.Entries.{at}
 use Rattle.lists.specs.Rows.{tab}
 use Rattle.ctl.proofs.OverInitial.{initial-related}
-use Rattle.kripke.proofs.Related.{Kept, RowRelated, next-related, until-related}
+use Rattle.kripke.proofs.Related.{Kept, RowRelated, equal-kept, next-related, small-kept, until-related}
 use Rattle.lists.proofs.Numbers.{lt-or-le}
-use Rattle.lists.proofs.Rows.{length-tab, tab-at}
+use Rattle.lists.proofs.Rows.{tab-at, tab-past}
 
 pub record Kleene (Rel : ℕ → ℕ → Type 0) : Type 0 where
   pub kept : Kept Rel
@@ -30,8 +31,17 @@ module _ (Rel : ℕ → ℕ → Type 0) (K : Kleene Rel) where
   tab-related f g n h s =
       ⊎-elim
       (λ (l : s < n). rw (tab-at f n s l, tab-at g n s l) (h s))
-      (λ (l : n ≤ s). rw (List·getD-eq-default (tab f n) 0 {n = s} (rw (length-tab f n) l), List·getD-eq-default (tab g n) 0 {n = s} (rw (length-tab g n) l)) (K .kept .none))
+      (λ (l : n ≤ s). rw (tab-past f n s l, tab-past g n s l) (K .kept .none))
       (lt-or-le s n)
+
+  opposite-related : (n : ℕ) (L M : List ℕ) → RowRelated Rel (K .kept) L M → RowRelated Rel (K .kept) (opposite n L) (opposite n M)
+  unfolding opposite
+  opposite-related n L M l = tab-related (λ (s : ℕ). neg (at L s)) (λ (s : ℕ). neg (at M s)) n (λ s. K .turned (at L s) (at M s) (l s))
+
+  -- an until whose left part is true everywhere
+  eventually-related : (all : Bool) (es : List ℕ) (n : ℕ) (L M : List ℕ) → RowRelated Rel (K .kept) L M → (s : ℕ) → Rel (until all es (everywhere n) L n s) (until all es (everywhere n) M n s)
+  unfolding everywhere
+  eventually-related all es n L M l s = until-related Rel (K .kept) all es _ _ L M (tab-related (λ (t : ℕ). top) (λ (t : ℕ). top) n (λ t. K .true-true)) l n s
 
   -- two lists of as many rows, related at every node and state
   pub record RowsRelated (xs ys : List (List ℕ)) : Type 0 where
@@ -59,6 +69,13 @@ module _ (Rel : ℕ → ℕ → Type 0) (K : Kleene Rel) where
     node-related EX a L M R Q l r s = next-related Rel (K .kept) false (m .transitions) L M l s
     node-related EU a L M R Q l r s = until-related Rel (K .kept) false (m .transitions) L M R Q l r (m .states) s
     node-related AU a L M R Q l r s = until-related Rel (K .kept) true (m .transitions) L M R Q l r (m .states) s
+    node-related OR a L M R Q l r s = K .kept .greatest (at L s) (at M s) (at R s) (at Q s) (l s) (r s)
+    node-related IMPLIES a L M R Q l r s = K .kept .greatest (neg (at L s)) (neg (at M s)) (at R s) (at Q s) (K .turned (at L s) (at M s) (l s)) (r s)
+    node-related AX a L M R Q l r s = K .turned _ _ (next-related Rel (K .kept) false (m .transitions) _ _ (opposite-related (m .states) L M l) s)
+    node-related EF a L M R Q l r s = eventually-related false (m .transitions) (m .states) L M l s
+    node-related AF a L M R Q l r s = eventually-related true (m .transitions) (m .states) L M l s
+    node-related EG a L M R Q l r s = K .turned _ _ (eventually-related true (m .transitions) (m .states) _ _ (opposite-related (m .states) L M l) s)
+    node-related AG a L M R Q l r s = K .turned _ _ (eventually-related false (m .transitions) (m .states) _ _ (opposite-related (m .states) L M l) s)
 
     rows-from : (xs ys : List (List ℕ)) → RowsRelated xs ys → (ns : List ℕ) → RowsRelated (rowsFrom m xs ns) (rowsFrom (withLabels m labels′) ys ns)
     unfolding rowsFrom nodeRow
@@ -79,8 +96,9 @@ module _ (Rel : ℕ → ℕ → Type 0) (K : Kleene Rel) where
     verdict-related = initial-related Rel (K .kept) (m .states) (m .initial) _ _ (rows-related (m .nodes) .here (nodeCount (m .nodes) - 1))
 
 -- values stay within 0 to 2
-pub small-kept : Kept (λ (a b : ℕ). a ≤ top)
-small-kept = record { none = omega arith; least = λ a b x y h k. omega arith; greatest = λ a b x y h k. omega arith }
-
 pub small : Kleene (λ (a b : ℕ). a ≤ top)
 small = record { kept = small-kept; true-true = omega arith; turned = λ a b h. omega arith }
+
+-- equal values give equal values
+pub equal : Kleene (λ (a b : ℕ). a ≡ b)
+equal = record { kept = equal-kept; true-true = refl; turned = λ a b e. ap neg e }

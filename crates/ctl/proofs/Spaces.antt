@@ -10,6 +10,7 @@ use lib.ListN.{length, getD, drop, length-append, length-drop, List·getD-eq-def
 use lib.Seq.{take-at, drop-drop, drop-append-add}
 use borrow.Author.Tests.{lt-ltb, le-ltb}
 use Rattle.ctl.specs.Inside.{RowsFit, operandRow}
+use Rattle.ctl.specs.Operators.{RowFine}
 use Rattle.ctl.specs.Rows.{storedRows}
 use Rattle.values.specs.Limits.{mostStates}
 use Rattle.values.specs.Rows.{badRow, held, rowBegin, rowIn, rowSize, rowValues, storedRow, valueAt}
@@ -19,11 +20,6 @@ use Rattle.values.proofs.StoredRows.{stored-size, stored-valid, stored-values}
 use Rattle.lists.proofs.Entries.{all-get}
 use Rattle.lists.proofs.Numbers.{lt-or-le}
 use Rattle.lists.proofs.Rows.{tab-at}
-
--- a row of S values, each at most 2
-pub record RowFine (S : ℕ) (row : List ℕ) : Type 0 where
-  pub size : length row ≡ S
-  pub small : (s : ℕ) → at row s ≤ top
 
 fine-stored : (S : ℕ) (row : List ℕ) → RowFine S row → length (storedRow row) ≡ rowSize S
 fine-stored S row f = stored-size row ∙ ap rowSize (f .size)

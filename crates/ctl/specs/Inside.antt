@@ -1,6 +1,6 @@
 -- What the private functions ask of one another; no promise of a public call cites these.
 use mathlib.Core.Path.{_≡_}
-use Prim.Native.Nat.{ℕ, _+_, _*_, _-_, _<_, _≤_, min}
+use Prim.Native.Nat.{ℕ, _+_, _*_, _-_, _<_, _≤_, min, max}
 use mathlib.Core.List.{List, []}
 use mathlib.Core.Bool.{Bool, cond, false}
 use lib.ListN.{length}
@@ -13,7 +13,7 @@ use Rattle.values.specs.Rows.{rowSize, rowBegin, rowIn, rowValues, storedRow, b
 use Rattle.kripke.specs.Until.{next, step}
 use Rattle.kripke.specs.Inside.{Ready}
 use Rattle.model.specs.Model.{Model, asModel, nodeCount, kindAt, leftAt, rightAt}
-use Rattle.model.specs.Kinds.{Kind, TRUE, ATOM, NOT, AND, EX, EU, AU, kindOf}
+use Rattle.model.specs.Kinds.{Kind, TRUE, ATOM, NOT, AND, EX, EU, AU, OR, IMPLIES, AX, EF, AF, EG, AG, kindOf}
 use Rattle.model.specs.Inside.{AtomFits, NodesFit}
 use Rattle.ctl.specs.Nodes.{nodeRow}
 use Rattle.ctl.specs.Rows.{initialStates, rowsFrom, storedRows}
@@ -70,6 +70,13 @@ plainValue AND l r = min l r
 plainValue EX l r = top
 plainValue EU l r = top
 plainValue AU l r = top
+plainValue OR l r = max l r
+plainValue IMPLIES l r = max (neg l) r
+plainValue AX l r = top
+plainValue EF l r = top
+plainValue AF l r = top
+plainValue EG l r = top
+plainValue AG l r = top
 
 -- the row of node i, from the rows that stand in the space
 unfoldable pub nodeRowAt : Model → List ℕ → List ℕ → ℕ → List ℕ

@@ -2,3 +2,4 @@ pub mod Nodes
 pub mod Rows
 pub mod Answers
 pub mod Inside
+pub mod Operators

@@ -11,13 +11,14 @@ use borrow.Author.Tests.{lt-ltb, le-ltb}
 use Rattle.lists.proofs.Numbers.{last-or-before, lt-or-le}
 use Rattle.values.specs.Limits.{greatestKind}
 use Rattle.model.specs.Model.{kindAt}
-use Rattle.model.specs.Kinds.{kindOf, uses, bound}
+use Rattle.model.specs.Kinds.{Use, unused, anAtom, aNode, kindOf, uses, bound}
 use Rattle.model.specs.Refusals.{badOperand}
-use Rattle.formula.specs.Tree.{Prefix, NOT, EX, Pair, AND, EU, AU, Formula, TRUE, ATOM, one, two, size, AtomsBelow}
+use Rattle.formula.specs.Tree.{Prefix, Pair, Formula, TRUE, ATOM, one, two, size, AtomsBelow}
 use Rattle.formula.specs.Text.{textOf}
 use Rattle.formula.specs.Nodes.{prefixKind, pairKind, nodesOf}
 use Rattle.formula.specs.Answers.{Accepted, YieldsPart}
 use Rattle.formula.specs.InsidePrinting.{Triple, Stands}
+use Rattle.formula.proofs.Operators.{each-prefix, each-pair}
 use Rattle.formula.proofs.Sizes.{nodes-length, size-some, length-prefixed, length-joined}
 use Rattle.formula.proofs.Standing.{part-stands, stands-part, stands-whole}
 use Rattle.formula.proofs.PrintingLaws.{whole-part}
@@ -72,13 +73,10 @@ yields-each f j a h =
 
 -- its kind is one of the kinds
 prefix-known : (p : Prefix) → prefixKind p ≤ greatestKind
-prefix-known NOT = omega arith
-prefix-known EX = omega arith
+prefix-known = each-prefix (λ (p : Prefix). prefixKind p ≤ greatestKind) (omega arith) (omega arith) (omega arith) (omega arith) (omega arith) (omega arith) (omega arith)
 
 pair-known : (q : Pair) → pairKind q ≤ greatestKind
-pair-known AND = omega arith
-pair-known EU = omega arith
-pair-known AU = omega arith
+pair-known = each-pair (λ (q : Pair). pairKind q ≤ greatestKind) (omega arith) (omega arith) (omega arith) (omega arith) (omega arith)
 
 kind-known : (nodes : List ℕ) (j first : ℕ) (g : Formula) → Stands nodes j first g → kindAt nodes j ≤ greatestKind
 unfolding Stands
@@ -91,32 +89,29 @@ pub kind-fits : (f : Formula) (j : ℕ) → j < size f → ltb greatestKind (kin
 kind-fits f j h = let p = part-ends f j h in le-ltb greatestKind (kindAt (nodesOf f) j) (kind-known (nodesOf f) j (p .first) (p .part) (p .stands))
 
 -- and its operands are earlier nodes, its atom is one of the model's where all of the formula's are
-bad : ℕ → ℕ → ℕ → ℕ → ℕ → Bool
-bad A i k l r = not (ltb l (bound (uses (kindOf k) .0) A i)) || not (ltb r (bound (uses (kindOf k) .1) A i))
+bad : ℕ → ℕ → Use × Use → ℕ → ℕ → Bool
+bad A i u l r = not (ltb l (bound (u .0) A i)) || not (ltb r (bound (u .1) A i))
 
-prefix-fits : (p : Prefix) (A i l : ℕ) → l < i → bad A i (prefixKind p) l 0 ≡ false
-unfolding bad kindOf
-prefix-fits NOT A i l h = simp (lt-ltb l i h)
-prefix-fits EX A i l h = simp (lt-ltb l i h)
+prefix-uses : (p : Prefix) → uses (kindOf (prefixKind p)) ≡ (aNode, unused)
+unfolding kindOf
+prefix-uses = each-prefix (λ (p : Prefix). uses (kindOf (prefixKind p)) ≡ (aNode, unused)) refl refl refl refl refl refl refl
 
-pair-fits : (q : Pair) (A i l r : ℕ) → l < i → r < i → bad A i (pairKind q) l r ≡ false
-unfolding bad kindOf
-pair-fits AND A i l r h k = simp (lt-ltb l i h, lt-ltb r i k)
-pair-fits EU A i l r h k = simp (lt-ltb l i h, lt-ltb r i k)
-pair-fits AU A i l r h k = simp (lt-ltb l i h, lt-ltb r i k)
+pair-uses : (q : Pair) → uses (kindOf (pairKind q)) ≡ (aNode, aNode)
+unfolding kindOf
+pair-uses = each-pair (λ (q : Pair). uses (kindOf (pairKind q)) ≡ (aNode, aNode)) refl refl refl refl refl
 
-by-numbers : (nodes : List ℕ) (A i k l r : ℕ) → Triple nodes i k l r → bad A i k l r ≡ false → badOperand A nodes i ≡ false
+by-numbers : (nodes : List ℕ) (A i k l r : ℕ) (u : Use × Use) → Triple nodes i k l r → uses (kindOf k) ≡ u → bad A i u l r ≡ false → badOperand A nodes i ≡ false
 unfolding bad
-by-numbers nodes A i k l r t e = rw (t .kind, t .left, t .right) e
+by-numbers nodes A i k l r u t w e = rw (t .kind, t .left, t .right, w) e
 
 operands-known : (nodes : List ℕ) (A j first : ℕ) (g : Formula) → AtomsBelow A g → Stands nodes j first g → badOperand A nodes j ≡ false
 unfolding Stands AtomsBelow bad kindOf
-operands-known nodes A j first TRUE b s = by-numbers nodes A j 0 0 0 (s .0) refl
-operands-known nodes A j first (ATOM a) b s = by-numbers nodes A j 1 a 0 (s .0) (simp (lt-ltb a A b))
-operands-known nodes A j first (one p g) b s = by-numbers nodes A j (prefixKind p) (j - 1) 0 (s .1 .0) (prefix-fits p A j (j - 1) (omega (arith, s .0)))
+operands-known nodes A j first TRUE b s = by-numbers nodes A j 0 0 0 (unused, unused) (s .0) refl refl
+operands-known nodes A j first (ATOM a) b s = by-numbers nodes A j 1 a 0 (anAtom, unused) (s .0) refl (simp (lt-ltb a A b))
+operands-known nodes A j first (one p g) b s = by-numbers nodes A j (prefixKind p) (j - 1) 0 (aNode, unused) (s .1 .0) (prefix-uses p) (simp (lt-ltb (j - 1) j (omega (arith, s .0))))
 operands-known nodes A j first (two q g h) b s =
     let w = stands-whole nodes h (j - 1) (s .1 .0 + 1) (s .1 .1 .1 .1) in
-    by-numbers nodes A j (pairKind q) (s .1 .0) (j - 1) (s .1 .1 .0) (pair-fits q A j (s .1 .0) (j - 1) (omega (arith, s .0, w)) (omega (arith, s .0)))
+    by-numbers nodes A j (pairKind q) (s .1 .0) (j - 1) (aNode, aNode) (s .1 .1 .0) (pair-uses q) (simp (lt-ltb (s .1 .0) j (omega (arith, s .0, w)), lt-ltb (j - 1) j (omega (arith, s .0))))
 
 pub operands-fit : (f : Formula) (A j : ℕ) → AtomsBelow A f → j < size f → badOperand A (nodesOf f) j ≡ false
 operands-fit f A j b h = let p = part-ends f j h in operands-known (nodesOf f) A j (p .first) (p .part) (p .below A b) (p .stands)

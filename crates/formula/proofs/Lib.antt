@@ -1,11 +1,13 @@
 pub mod Numbers
 pub mod Beginnings
 pub mod Operators
+pub mod Tables
 pub mod AtomLaws
 pub mod Shapes
 pub mod OneReading
 pub mod Marks
 pub mod Founds
+pub mod Pairs
 pub mod NodeSpace
 pub mod Sizes
 pub mod ReadLaws

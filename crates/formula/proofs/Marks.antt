@@ -9,10 +9,10 @@ use lib.ListN.{length, drop, length-append, length-drop}
 use lib.Seq.{drop-drop}
 use Rattle.formula.specs.declared.signs.Sign.{Sign}
 use Rattle.formula.specs.Tree.{Prefix, Pair}
-use Rattle.formula.specs.Text.{sign, opening, middle}
-use Rattle.formula.specs.Inside.{begins, SignAt, MiddleAt}
+use Rattle.formula.specs.Text.{sign, middle}
+use Rattle.formula.specs.Inside.{begins, SignAt, Bracket, opened}
 use Rattle.formula.proofs.Beginnings.{begins-with}
-use Rattle.formula.proofs.Operators.{each-prefix, each-pair}
+use Rattle.formula.proofs.Operators.{each-prefix, each-pair, each-bracket}
 
 -- bytes that stand at a place: the text from there is they and what is behind
 pub record There (bytes s : List ℕ) (place behind : ℕ) : Type 0 where
@@ -45,18 +45,10 @@ sign-gone signOf kindOf s place r some (inl x) e = absurd (let l = some (x .0) i
 sign-gone signOf kindOf s place r some (inr x) e = x .0
 
 pub prefix-some : (p : Prefix) → 0 < length (sign p)
-prefix-some = each-prefix (λ (p : Prefix). 0 < length (sign p)) (omega arith) (omega arith)
+prefix-some = each-prefix (λ (p : Prefix). 0 < length (sign p)) (omega arith) (omega arith) (omega arith) (omega arith) (omega arith) (omega arith) (omega arith)
 
-pub opening-some : (q : Pair) → 0 < length (opening q)
-opening-some = each-pair (λ (q : Pair). 0 < length (opening q)) (omega arith) (omega arith) (omega arith)
+pub opened-some : (b : Bracket) → 0 < length (opened b)
+opened-some = each-bracket (λ (b : Bracket). 0 < length (opened b)) (omega arith) (omega arith) (omega arith)
 
 pub middle-some : (q : Pair) → 0 < length (middle q)
-middle-some = each-pair (λ (q : Pair). 0 < length (middle q)) (omega arith) (omega arith) (omega arith)
-
-pub middle-there : (q : Pair) (s : List ℕ) (place r : ℕ) → place ≤ length s → MiddleAt q s place r → (r ≡ 0 → ⊥) → There (middle q) s place (place + r)
-middle-there q s place r h (inl x) n = subst (λ (k : ℕ). There (middle q) s place (place + k)) (sym (x .1)) (there (middle q) s place h (x .0))
-middle-there q s place r h (inr x) n = absurd (n (x .1))
-
-pub middle-gone : (q : Pair) (s : List ℕ) (place r : ℕ) → MiddleAt q s place r → r ≡ 0 → begins (middle q) (drop place s) ≡ false
-middle-gone q s place r (inl x) e = absurd (let l = middle-some q in omega (arith, l, x .1, e))
-middle-gone q s place r (inr x) e = x .0
+middle-some = each-pair (λ (q : Pair). 0 < length (middle q)) (omega arith) (omega arith) (omega arith) (omega arith) (omega arith)

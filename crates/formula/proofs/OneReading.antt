@@ -7,11 +7,11 @@ use native.Mathlib.Omega.{arith}
 use Rattle.values.specs.Limits.{mostAtoms}
 use Rattle.values.specs.Signs.{decimal}
 use Rattle.formula.specs.Tree.{Prefix, Pair, Formula, TRUE, ATOM, one, two, Named, AtomsBelow}
-use Rattle.formula.specs.Text.{sign, opening, middle, closing, textOf}
-use Rattle.formula.specs.Inside.{begins, Stops, Begins, Only, NoneOf, Any, Term, Leaf}
+use Rattle.formula.specs.Text.{sign, middle, closing, textOf}
+use Rattle.formula.specs.Inside.{begins, Stops, Bracket, opened, bracketOf, PairIn, middleIn, Begins, Only, NoneOf, Any, Term, Leaf}
 use Rattle.formula.proofs.Numbers.{said, decimal-says, cut-once}
 use Rattle.formula.proofs.Beginnings.{begins-own}
-use Rattle.formula.proofs.Shapes.{one-of, TwoOf, two-of, true-of, atom-of, one-behind, two-behind, middle-stops, cancel}
+use Rattle.formula.proofs.Shapes.{one-of, TwoOf, two-of, one-middle, true-of, atom-of, one-behind, two-behind, middle-stops, cancel}
 
 pub only-true : (r : List ℕ) → Only (84 ∷ r) TRUE r
 only-true r g t b = true-of r g t b
@@ -31,44 +31,47 @@ only-one p v f r h g t b =
     let w = h (o .part) t (o .begins) in
     (o .is ∙ ap (one p) (w .0), w .1)
 
-module _ (q : Pair) (v : List ℕ) where
+module _ (b : Bracket) (v : List ℕ) where
   -- what stands behind the left part of a pair is known by the only formula there
   module _ (f : Formula) (w : List ℕ) (h : Only v f w) where
-    behind : (g : Formula) (t : List ℕ) (o : TwoOf q v g t) → (o .left ≡ f) × (middle q ++ (textOf (o .right) ++ (closing ++ t)) ≡ w)
-    behind g t o = h (o .left) (middle q ++ (textOf (o .right) ++ (closing ++ t))) (o .first)
+    behind : (g : Formula) (t : List ℕ) (o : TwoOf b v g t) → (o .left ≡ f) × (middleIn (o .join) ++ (textOf (o .right) ++ (closing ++ t)) ≡ w)
+    behind g t o = h (o .left) (middleIn (o .join) ++ (textOf (o .right) ++ (closing ++ t))) (o .first)
 
-    pub none-middle : begins (middle q) w ≡ false → NoneOf Term (opening q ++ v)
-    none-middle e g t k b =
-        let o = two-of q v g t b in
-        true≢false (sym (begins-own (middle q) (textOf (o .right) ++ (closing ++ t))) ∙ ap (begins (middle q)) (behind g t o .1) ∙ e)
+    pub none-middle : ((x : PairIn b) → begins (middleIn x) w ≡ false) → NoneOf Term (opened b ++ v)
+    none-middle e g t k h =
+        let o = two-of b v g t h in
+        true≢false (sym (begins-own (middleIn (o .join)) (textOf (o .right) ++ (closing ++ t))) ∙ ap (begins (middleIn (o .join))) (behind g t o .1) ∙ e (o .join))
 
   -- behind the sign in the middle, by the only formula on the left
-  module _ (f : Formula) (w : List ℕ) (h : Only v f (middle q ++ w)) where
-    rest : (g : Formula) (t : List ℕ) (o : TwoOf q v g t) → (o .left ≡ f) × (textOf (o .right) ++ (closing ++ t) ≡ w)
+  module _ (f : Formula) (x : PairIn b) (w : List ℕ) (h : Only v f (middleIn x ++ w)) where
+    join-told : (g : Formula) (t : List ℕ) (o : TwoOf b v g t) → o .join .pair ≡ x .pair
+    join-told g t o = one-middle (o .join) x (textOf (o .right) ++ (closing ++ t)) w (behind f (middleIn x ++ w) h g t o .1)
+
+    rest : (g : Formula) (t : List ℕ) (o : TwoOf b v g t) → textOf (o .right) ++ (closing ++ t) ≡ w
     rest g t o =
-        let x = behind f (middle q ++ w) h g t o in
-        (x .0, cancel (middle q) (textOf (o .right) ++ (closing ++ t)) w (x .1))
+        let right = textOf (o .right) ++ (closing ++ t) in
+        cancel (middleIn x) right w (ap (λ (q : Pair). middle q ++ right) (sym (join-told g t o)) ∙ behind f (middleIn x ++ w) h g t o .1)
 
-    right-begins : (g : Formula) (t : List ℕ) (o : TwoOf q v g t) → Begins w (o .right) (closing ++ t)
-    right-begins g t o = subst (λ (x : List ℕ). Begins x (o .right) (closing ++ t)) (rest g t o .1) (o .second)
+    right-begins : (g : Formula) (t : List ℕ) (o : TwoOf b v g t) → Begins w (o .right) (closing ++ t)
+    right-begins g t o = subst (λ (x : List ℕ). Begins x (o .right) (closing ++ t)) (rest g t o) (o .second)
 
-    pub none-second : NoneOf Any w → NoneOf Term (opening q ++ v)
-    none-second n g t k b = let o = two-of q v g t b in n (o .right) (closing ++ t) tt (right-begins g t o)
+    pub none-second : NoneOf Any w → NoneOf Term (opened b ++ v)
+    none-second n g t k h = let o = two-of b v g t h in n (o .right) (closing ++ t) tt (right-begins g t o)
 
-    pub none-closing : (g : Formula) (r : List ℕ) → Only w g r → begins closing r ≡ false → NoneOf Term (opening q ++ v)
-    none-closing g′ r n e g t k b =
-        let o = two-of q v g t b in
-        let x = n (o .right) (closing ++ t) (right-begins g t o) in
-        true≢false (sym (begins-own closing t) ∙ ap (begins closing) (x .1) ∙ e)
+    pub none-closing : (g : Formula) (r : List ℕ) → Only w g r → begins closing r ≡ false → NoneOf Term (opened b ++ v)
+    none-closing g′ r n e g t k h =
+        let o = two-of b v g t h in
+        let c = n (o .right) (closing ++ t) (right-begins g t o) in
+        true≢false (sym (begins-own closing t) ∙ ap (begins closing) (c .1) ∙ e)
 
-    pub only-two : (g : Formula) (r : List ℕ) → Only w g (closing ++ r) → Only (opening q ++ v) (two q f g) r
-    only-two g′ r n g t b =
-        let o = two-of q v g t b in
-        let x = n (o .right) (closing ++ t) (right-begins g t o) in
-        (o .is ∙ cc (rest g t o .0, x .0), cancel closing t r (x .1))
+    pub only-two : (g : Formula) (r : List ℕ) → Only w g (closing ++ r) → Only (opened b ++ v) (two (x .pair) f g) r
+    only-two g′ r n g t h′ =
+        let o = two-of b v g t h′ in
+        let c = n (o .right) (closing ++ t) (right-begins g t o) in
+        (o .is ∙ cc (join-told g t o, behind f (middleIn x ++ w) h g t o .0, c .0), cancel closing t r (c .1))
 
-  pub none-first : NoneOf Any v → NoneOf Term (opening q ++ v)
-  none-first n g t k b = let o = two-of q v g t b in n (o .left) (middle q ++ (textOf (o .right) ++ (closing ++ t))) tt (o .first)
+  pub none-first : NoneOf Any v → NoneOf Term (opened b ++ v)
+  none-first n g t k h = let o = two-of b v g t h in n (o .left) (middleIn (o .join) ++ (textOf (o .right) ++ (closing ++ t))) tt (o .first)
 
 pub none-one : (p : Prefix) (v : List ℕ) → NoneOf Any v → NoneOf Any (sign p ++ v)
 none-one p v n g t k b = let o = one-of p v g t b in n (o .part) t tt (o .begins)
@@ -87,11 +90,11 @@ none-leaf u x y (ATOM a) t k b = true≢false (sym (begun (112 ∷ []) (decimal 
 none-leaf u x y (one p f) t k b = absurd k
 none-leaf u x y (two q f g) t k b = absurd k
 
-pub none-term : (u : List ℕ) → ((q : Pair) → begins (opening q) u ≡ false) → NoneOf Leaf u → NoneOf Term u
+pub none-term : (u : List ℕ) → ((b : Bracket) → begins (opened b) u ≡ false) → NoneOf Leaf u → NoneOf Term u
 none-term u x n TRUE t k b = n TRUE t tt b
 none-term u x n (ATOM a) t k b = n (ATOM a) t tt b
 none-term u x n (one p f) t k b = absurd k
-none-term u x n (two q f g) t k b = true≢false (sym (begun (opening q) _ u (b .spelt ∙ two-behind q f g t)) ∙ x q)
+none-term u x n (two q f g) t k b = true≢false (sym (begun (opened (bracketOf q)) _ u (b .spelt ∙ two-behind q f g t)) ∙ x (bracketOf q))
 
 pub none-any : (u : List ℕ) → ((p : Prefix) → begins (sign p) u ≡ false) → NoneOf Term u → NoneOf Any u
 none-any u x n TRUE t k b = n TRUE t tt b
@@ -108,7 +111,7 @@ only-text (one p f) r n q = subst (λ (x : List ℕ). Only x (one p f) r) (sym (
 only-text (two k f g) r n q =
     let w : List ℕ = textOf g ++ (closing ++ r) in
     subst (λ (x : List ℕ). Only x (two k f g) r) (sym (two-behind k f g r))
-    (only-two k (textOf f ++ (middle k ++ w)) f w (only-text f (middle k ++ w) (n .0) (middle-stops k w)) g r (only-text g (closing ++ r) (n .1) refl))
+    (only-two (bracketOf k) (textOf f ++ (middle k ++ w)) f (record { pair = k; within = refl }) w (only-text f (middle k ++ w) (n .0) (middle-stops k w)) g r (only-text g (closing ++ r) (n .1) refl))
 
 -- two formulas with the same text are one
 pub one-text : (f g : Formula) → Named f → Named g → textOf f ≡ textOf g → f ≡ g

@@ -5,9 +5,10 @@ use mathlib.Core.List.{[], _∷_, _++_}
 use native.Mathlib.Omega.{arith}
 use lib.ListN.{length, length-append}
 use Rattle.values.proofs.Decimals.{decimal-short}
-use Rattle.formula.specs.Tree.{Prefix, NOT, EX, Pair, AND, EU, AU, Formula, TRUE, ATOM, one, two, size}
+use Rattle.formula.specs.Tree.{Prefix, Pair, Formula, TRUE, ATOM, one, two, size}
 use Rattle.formula.specs.Text.{sign, opening, middle, closing, textOf}
 use Rattle.formula.specs.Nodes.{prefixKind, pairKind, rootFrom, nodesFrom}
+use Rattle.formula.proofs.Operators.{each-prefix, each-pair}
 
 pub size-some : (f : Formula) → 0 < size f
 unfolding size
@@ -29,14 +30,11 @@ nodes-length n (two q f g) =
     let k = nodes-length (n + size f) g in
     omega (arith, l, m, h, k)
 
-sign-short : (p : Prefix) → length (sign p) ≤ 6
-sign-short NOT = omega arith
-sign-short EX = omega arith
+pub sign-short : (p : Prefix) → length (sign p) ≤ 6
+sign-short = each-prefix (λ (p : Prefix). length (sign p) ≤ 6) (omega arith) (omega arith) (omega arith) (omega arith) (omega arith) (omega arith) (omega arith)
 
-signs-short : (q : Pair) → length (opening q) + length (middle q) + length closing ≤ 6
-signs-short AND = omega arith
-signs-short EU = omega arith
-signs-short AU = omega arith
+pub signs-short : (q : Pair) → length (opening q) + length (middle q) + length closing ≤ 6
+signs-short = each-pair (λ (q : Pair). length (opening q) + length (middle q) + length closing ≤ 6) (omega arith) (omega arith) (omega arith) (omega arith) (omega arith)
 
 pub length-prefixed : (p : Prefix) (f : Formula) → length (textOf (one p f)) ≡ length (textOf f) + length (sign p)
 unfolding textOf

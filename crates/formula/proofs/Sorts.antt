@@ -1,64 +1,65 @@
 -- What a kind's number tells, and what a node's kind tells of the formula that ends there.
-use Prim.Native.Nat.{ℕ, zero, suc, _*_, _<_, _≤_}
+use Prim.Native.Nat.{ℕ, suc, _*_, _<_, _≤_}
 use mathlib.Core.Path.{_≡_, refl, ap, _∙_}
 use mathlib.Core.List.{List}
+use mathlib.Core.Logic.{_⊎_, inl, inr, ⊎-elim}
 use native.Mathlib.Omega.{arith}
-use Rattle.lists.specs.Entries.{at}
-use Rattle.formula.specs.Tree.{Prefix, NOT, EX, Pair, AND, EU, AU, Formula, TRUE, ATOM, one, two}
-use Rattle.formula.specs.Text.{middle}
+use lib.ListN.{List·getD-eq-default}
+use lib.Dec.{eqb}
+use borrow.Author.Tests.{eqb-true}
+use Rattle.lists.specs.Entries.{at, anyBelow}
+use Rattle.lists.proofs.Numbers.{lt-or-le}
+use Rattle.values.specs.Limits.{greatestKind}
+use Rattle.formula.specs.Tree.{Prefix, Pair, Formula, TRUE, ATOM, one, two}
 use Rattle.formula.specs.Nodes.{prefixKind, pairKind}
-use Rattle.formula.specs.InsidePrinting.{Sort, truth, atom, nothing, prefix, pair, sortOf, takes, inner, signs, Stands, Signed}
+use Rattle.formula.specs.InsidePrinting.{Sort, truth, atom, nothing, prefix, pair, sorts, sortOf, takes, signs, Stands}
+use Rattle.formula.proofs.Sizes.{sign-short, signs-short}
+use Rattle.formula.proofs.Operators.{each-prefix, each-pair}
+use Rattle.model.proofs.KindLaws.{by-kinds}
 
 pub sort-prefix : (p : Prefix) → sortOf (prefixKind p) ≡ prefix p
 unfolding sortOf
-sort-prefix NOT = refl
-sort-prefix EX = refl
+sort-prefix = each-prefix (λ (p : Prefix). sortOf (prefixKind p) ≡ prefix p) refl refl refl refl refl refl refl
 
 pub sort-pair : (q : Pair) → sortOf (pairKind q) ≡ pair q
 unfolding sortOf
-sort-pair AND = refl
-sort-pair EU = refl
-sort-pair AU = refl
+sort-pair = each-pair (λ (q : Pair). sortOf (pairKind q) ≡ pair q) refl refl refl refl refl
 
 -- the number of what it tells
-abbrev NumberOf : Sort → ℕ → Type 0
-NumberOf truth k = k ≡ 0
-NumberOf atom k = k ≡ 1
-NumberOf (prefix p) k = k ≡ prefixKind p
-NumberOf (pair q) k = k ≡ pairKind q
-NumberOf nothing k = 6 < k
+abbrev numberIn : Sort → ℕ
+numberIn truth = 0
+numberIn atom = 1
+numberIn (prefix p) = prefixKind p
+numberIn (pair q) = pairKind q
+numberIn nothing = suc greatestKind
 
-number-of : (k : ℕ) → NumberOf (sortOf k) k
+pub no-kind : (k : ℕ) → greatestKind < k → sortOf k ≡ nothing
 unfolding sortOf
-number-of zero = refl
-number-of (suc zero) = refl
-number-of (suc (suc zero)) = refl
-number-of (suc (suc (suc zero))) = refl
-number-of (suc (suc (suc (suc zero)))) = refl
-number-of (suc (suc (suc (suc (suc zero))))) = refl
-number-of (suc (suc (suc (suc (suc (suc zero)))))) = refl
-number-of (suc (suc (suc (suc (suc (suc (suc k))))))) = omega arith
+no-kind k h = List·getD-eq-default sorts nothing h
+
+pub known-kind : (k : ℕ) → takes (sortOf k) < 3 → k ≤ greatestKind
+known-kind k h = ⊎-elim (λ (l : greatestKind < k). absurd (omega (arith, h, ap takes (no-kind k l)))) (λ (l : k ≤ greatestKind). l) (lt-or-le greatestKind k)
+
+number-of : (k : ℕ) → takes (sortOf k) < 3 → k ≡ numberIn (sortOf k)
+unfolding sortOf anyBelow
+number-of k h = eqb-true k (numberIn (sortOf k)) (by-kinds (λ (k : ℕ). eqb k (numberIn (sortOf k))) refl k (known-kind k h))
 
 -- a kind by how many operands it has
-pub no-operand : (k : ℕ) → takes (sortOf k) ≡ 0 → (k ≡ 1 → ⊥) → k ≡ 0
-no-operand k e h = go (sortOf k) (number-of k) e
+leaf-kind : (k : ℕ) → takes (sortOf k) ≡ 0 → (k ≡ 0) ⊎ (k ≡ 1)
+leaf-kind k e = go (sortOf k) (number-of k (omega arith)) e
   where
-    go : (s : Sort) → NumberOf s k → takes s ≡ 0 → k ≡ 0
-    go truth n e = n
-    go atom n e = absurd (h n)
+    go : (s : Sort) → k ≡ numberIn s → takes s ≡ 0 → (k ≡ 0) ⊎ (k ≡ 1)
+    go truth n e = inl n
+    go atom n e = inr n
     go (prefix p) n e = absurd (omega arith)
     go (pair q) n e = absurd (omega arith)
     go nothing n e = absurd (omega arith)
 
+pub no-operand : (k : ℕ) → takes (sortOf k) ≡ 0 → (k ≡ 1 → ⊥) → k ≡ 0
+no-operand k e h = ⊎-elim (λ (z : k ≡ 0). z) (λ (z : k ≡ 1). absurd (h z)) (leaf-kind k e)
+
 pub other-leaf : (k : ℕ) → takes (sortOf k) ≡ 0 → (k ≡ 0 → ⊥) → k ≡ 1
-other-leaf k e h = go (sortOf k) (number-of k) e
-  where
-    go : (s : Sort) → NumberOf s k → takes s ≡ 0 → k ≡ 1
-    go truth n e = absurd (h n)
-    go atom n e = n
-    go (prefix p) n e = absurd (omega arith)
-    go (pair q) n e = absurd (omega arith)
-    go nothing n e = absurd (omega arith)
+other-leaf k e h = ⊎-elim (λ (z : k ≡ 0). absurd (h z)) (λ (z : k ≡ 1). z) (leaf-kind k e)
 
 pub record OnePrefix (k : ℕ) : Type 0 where
   pub sign : Prefix
@@ -66,9 +67,9 @@ pub record OnePrefix (k : ℕ) : Type 0 where
   pub number : k ≡ prefixKind sign
 
 pub one-operand : (k : ℕ) → takes (sortOf k) ≡ 1 → OnePrefix k
-one-operand k e = go (sortOf k) refl (number-of k) e
+one-operand k e = go (sortOf k) refl (number-of k (omega arith)) e
   where
-    go : (s : Sort) → sortOf k ≡ s → NumberOf s k → takes s ≡ 1 → OnePrefix k
+    go : (s : Sort) → sortOf k ≡ s → k ≡ numberIn s → takes s ≡ 1 → OnePrefix k
     go truth q n e = absurd (omega arith)
     go atom q n e = absurd (omega arith)
     go (prefix p) q n e = record { sign = p; sort = q; number = n }
@@ -81,9 +82,9 @@ pub record OnePair (k : ℕ) : Type 0 where
   pub number : k ≡ pairKind join
 
 pub two-operands : (k : ℕ) → takes (sortOf k) ≡ 2 → OnePair k
-two-operands k e = go (sortOf k) refl (number-of k) e
+two-operands k e = go (sortOf k) refl (number-of k (omega arith)) e
   where
-    go : (s : Sort) → sortOf k ≡ s → NumberOf s k → takes s ≡ 2 → OnePair k
+    go : (s : Sort) → sortOf k ≡ s → k ≡ numberIn s → takes s ≡ 2 → OnePair k
     go truth q n e = absurd (omega arith)
     go atom q n e = absurd (omega arith)
     go (prefix p) q n e = absurd (omega arith)
@@ -118,45 +119,6 @@ takes-most (prefix p) = omega arith
 takes-most (pair q) = omega arith
 takes-most nothing = omega arith
 
--- what a table's last line is for: no kind, or the last of those that have signs
-pub no-kind : (k : ℕ) → (k ≡ 0 → ⊥) → (k ≡ 1 → ⊥) → (k ≡ 2 → ⊥) → (k ≡ 3 → ⊥) → (k ≡ 4 → ⊥) → (k ≡ 5 → ⊥) → (k ≡ 6 → ⊥) → sortOf k ≡ nothing
-no-kind k a b d e f g h = go (sortOf k) (number-of k)
-  where
-    go : (s : Sort) → NumberOf s k → s ≡ nothing
-    go truth n = absurd (a n)
-    go atom n = absurd (b n)
-    go (prefix NOT) n = absurd (d n)
-    go (prefix EX) n = absurd (f n)
-    go (pair AND) n = absurd (e n)
-    go (pair EU) n = absurd (g n)
-    go (pair AU) n = absurd (h n)
-    go nothing n = refl
-
-pub last-signed : (k : ℕ) → Signed k → (k ≡ 2 → ⊥) → (k ≡ 3 → ⊥) → (k ≡ 4 → ⊥) → (k ≡ 5 → ⊥) → k ≡ 6
-last-signed k signed d e f g = go (sortOf k) (number-of k) (signed .some) (signed .known)
-  where
-    go : (s : Sort) → NumberOf s k → 0 < takes s → takes s < 3 → k ≡ 6
-    go truth n x y = absurd (omega arith)
-    go atom n x y = absurd (omega arith)
-    go (prefix NOT) n x y = absurd (d n)
-    go (prefix EX) n x y = absurd (f n)
-    go (pair AND) n x y = absurd (e n)
-    go (pair EU) n x y = absurd (g n)
-    go (pair AU) n x y = n
-    go nothing n x y = absurd (omega arith)
-
-pub later-pair : (k : ℕ) → takes (sortOf k) ≡ 2 → (k ≡ 3 → ⊥) → inner (sortOf k) ≡ middle AU
-later-pair k e h = go (sortOf k) (number-of k) e
-  where
-    go : (s : Sort) → NumberOf s k → takes s ≡ 2 → inner s ≡ middle AU
-    go truth n x = absurd (omega arith)
-    go atom n x = absurd (omega arith)
-    go (prefix p) n x = absurd (omega arith)
-    go (pair AND) n x = absurd (h n)
-    go (pair EU) n x = refl
-    go (pair AU) n x = refl
-    go nothing n x = absurd (omega arith)
-
 -- what is left once none, three and one are ruled out
 pub two-left : {r : ℕ} (k : ℕ) → r ≡ takes (sortOf k) → (r ≡ 0 → ⊥) → (r ≡ 3 → ⊥) → (r ≡ 1 → ⊥) → takes (sortOf k) ≡ 2
 two-left {r} k e a b d = let most = takes-most (sortOf k) in omega arith
@@ -167,9 +129,6 @@ signs-few k = go (sortOf k)
     go : (s : Sort) → signs s ≤ 6
     go truth = omega arith
     go atom = omega arith
-    go (prefix NOT) = omega arith
-    go (prefix EX) = omega arith
-    go (pair AND) = omega arith
-    go (pair EU) = omega arith
-    go (pair AU) = omega arith
+    go (prefix p) = sign-short p
+    go (pair q) = signs-short q
     go nothing = omega arith

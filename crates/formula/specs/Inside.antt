@@ -9,9 +9,9 @@ use lib.Dec.{eqb, ltb, leb}
 use Rattle.lists.specs.Rows.{Put}
 use Rattle.values.specs.Limits.{mostAtoms, mostFormula, mostNodes, mostNodeNumbers}
 use Rattle.values.specs.Signs.{decimal}
-use Rattle.formula.specs.Tree.{Pair, Formula, TRUE, ATOM, one, two, size, Named}
+use Rattle.formula.specs.Tree.{Pair, AND, EU, AU, OR, IMPLIES, Formula, TRUE, ATOM, one, two, size, Named}
 use Rattle.formula.specs.Text.{middle, textOf}
-use Rattle.formula.specs.Nodes.{nodesFrom}
+use Rattle.formula.specs.Nodes.{pairKind, nodesFrom}
 use Rattle.formula.specs.declared.signs.Sign.{Sign}
 use Rattle.formula.specs.declared.atoms.Atom.{Atom}
 use Rattle.formula.specs.declared.atoms.Atom.the-variants as atom
@@ -39,10 +39,42 @@ SignAt {A} signOf kindOf s place r =
     ((a : A) × (begins (signOf a) (drop place s) ≡ true) × (r .kind ≡ kindOf a) × (r .size ≡ length (signOf a)))
     ⊎ (((a : A) → begins (signOf a) (drop place s) ≡ false) × (r .size ≡ 0))
 
--- the sign between the parts of a pair stands at a place, for its size; 0 where it doesn't
-abbrev pub MiddleAt : Pair → List ℕ → ℕ → ℕ → Type 0
-MiddleAt q s place r =
-    ((begins (middle q) (drop place s) ≡ true) × (r ≡ length (middle q))) ⊎ ((begins (middle q) (drop place s) ≡ false) × (r ≡ 0))
+-- what begins a pair, for which the sign between its parts tells the kind: ( or E( or A(
+pub data Bracket : Type 0 where
+  plain some every : Bracket
+
+abbrev pub opened : Bracket → List ℕ
+opened plain = 40 ∷ []
+opened some = 69 ∷ 40 ∷ []
+opened every = 65 ∷ 40 ∷ []
+
+abbrev pub bracketOf : Pair → Bracket
+bracketOf AND = plain
+bracketOf EU = some
+bracketOf AU = every
+bracketOf OR = plain
+bracketOf IMPLIES = plain
+
+-- a bracket's number is that of the first kind that it begins
+abbrev pub bracketNumber : Bracket → ℕ
+bracketNumber plain = 3
+bracketNumber some = 5
+bracketNumber every = 6
+
+-- the pairs that a bracket begins
+pub record PairIn (b : Bracket) : Type 0 where
+  pub pair : Pair
+  pub within : bracketOf pair ≡ b
+
+abbrev pub middleIn : {b : Bracket} → PairIn b → List ℕ
+middleIn x = middle (x .pair)
+
+abbrev pub kindIn : {b : Bracket} → PairIn b → ℕ
+kindIn x = pairKind (x .pair)
+
+-- what stands between the parts of a pair with this bracket
+abbrev pub MiddleAt : Bracket → List ℕ → ℕ → Sign → Type 0
+MiddleAt b s place r = SignAt {A = PairIn b} middleIn kindIn s place r
 
 -- a number that ends at a place names an atom if it is below the most
 abbrev pub endedAt : ℕ → ℕ → Atom

@@ -7,7 +7,7 @@ use Rattle.lists.specs.Entries.{at}
 use Rattle.lists.specs.Rows.{Put}
 use Rattle.values.specs.Limits.{mostNodes, mostFormula, mostNodeNumbers}
 use Rattle.values.specs.Signs.{decimal}
-use Rattle.formula.specs.Tree.{Prefix, NOT, EX, Pair, AND, EU, AU, Formula, TRUE, ATOM, one, two, Named}
+use Rattle.formula.specs.Tree.{Prefix, NOT, EX, AX, EF, AF, EG, AG, Pair, AND, EU, AU, OR, IMPLIES, Formula, TRUE, ATOM, one, two, Named}
 use Rattle.formula.specs.Text.{constant, letter, sign, opening, middle, closing, textOf}
 use Rattle.formula.specs.Nodes.{prefixKind, pairKind}
 use Rattle.formula.specs.Answers.{YieldsPart}
@@ -22,8 +22,13 @@ pub data Sort : Type 0 where
   pair : Pair → Sort
 
 -- the kinds by their numbers, from 0
+abbrev pub sorts : List Sort
+sorts =
+    truth ∷ atom ∷ prefix NOT ∷ pair AND ∷ prefix EX ∷ pair EU ∷ pair AU ∷ pair OR ∷ pair IMPLIES
+    ∷ prefix AX ∷ prefix EF ∷ prefix AF ∷ prefix EG ∷ prefix AG ∷ []
+
 unfoldable pub sortOf : ℕ → Sort
-sortOf k = getD (truth ∷ atom ∷ prefix NOT ∷ pair AND ∷ prefix EX ∷ pair EU ∷ pair AU ∷ []) k nothing
+sortOf k = getD sorts k nothing
 
 -- how many operands it has; of no kind, more than any
 abbrev pub takes : Sort → ℕ

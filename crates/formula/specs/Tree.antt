@@ -2,13 +2,13 @@
 use Prim.Native.Nat.{ℕ, _+_, _<_}
 use Rattle.values.specs.Limits.{mostAtoms}
 
--- what stands before a formula: not, EX
+-- what stands before a formula: not, or next (X), at some time (F), always (G), each on some path (E) or on every path (A)
 pub data Prefix : Type 0 where
-  NOT EX : Prefix
+  NOT EX AX EF AF EG AG : Prefix
 
--- what joins two: and, E until, A until
+-- what joins two: and, E until, A until, or, implies
 pub data Pair : Type 0 where
-  AND EU AU : Pair
+  AND EU AU OR IMPLIES : Pair
 
 pub data Formula : Type 0 where
   TRUE : Formula

@@ -1,4 +1,5 @@
 // The formula that ends at a node of a list: where its nodes begin, and how long its text is.
+use values::limits::GREATEST_KIND;
 use values::limits::MOST_ATOMS;
 use values::limits::MOST_FORMULA;
 use values::limits::MOST_NODE_NUMBERS;
@@ -36,15 +37,18 @@ pub(crate) fn node_at(nodes: &[u16], i: usize) -> Node
 pub(crate) fn operands(kind: u16) -> u8
     ensures { λ r. ⌜ r ≡ takes (sortOf kind) ⌝ }
 {
+    if GREATEST_KIND < kind {
+        return 3;
+    }
     match kind {
         0 => 0,
         1 => 0,
-        2 => 1,
         3 => 2,
-        4 => 1,
         5 => 2,
         6 => 2,
-        _ => 3,
+        7 => 2,
+        8 => 2,
+        _ => 1,
     }
 }
 
@@ -55,10 +59,9 @@ fn signs_size(kind: u16) -> usize
 {
     match kind {
         2 => 1,
-        3 => 3,
-        4 => 3,
         5 => 6,
-        _ => 6,
+        6 => 6,
+        _ => 3,
     }
 }
 

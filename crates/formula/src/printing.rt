@@ -44,10 +44,15 @@ fn put_opening(kind: u16, text: &mut [u8], place: usize) -> usize
 {
     match kind {
         2 => put(b"!", text, place),
-        3 => put(b"(", text, place),
         4 => put(b"EX ", text, place),
         5 => put(b"E(", text, place),
-        _ => put(b"A(", text, place),
+        6 => put(b"A(", text, place),
+        9 => put(b"AX ", text, place),
+        10 => put(b"EF ", text, place),
+        11 => put(b"AF ", text, place),
+        12 => put(b"EG ", text, place),
+        13 => put(b"AG ", text, place),
+        _ => put(b"(", text, place),
     }
 }
 
@@ -58,6 +63,8 @@ fn put_middle(kind: u16, text: &mut [u8], place: usize) -> usize
 {
     match kind {
         3 => put(b"&", text, place),
+        7 => put(b"|", text, place),
+        8 => put(b">", text, place),
         _ => put(b" U ", text, place),
     }
 }

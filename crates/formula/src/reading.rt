@@ -48,17 +48,17 @@ fn term(text: &[u8], place: usize, n: usize, space: &mut [u16]) -> Parsed
         return Parsed::Not;
     };
     let middle = middle_at(text, behind, opening.kind);
-    if middle == 0 {
+    if middle.size == 0 {
         return Parsed::Not;
     }
-    let right = formula(text, behind + middle, m, space);
+    let right = formula(text, behind + middle.size, m, space);
     let Parsed::To(end, k) = right else {
         return Parsed::Not;
     };
     if !stands(b")", text, end) {
         return Parsed::Not;
     }
-    put_node(space, k, opening.kind, (m - 1) as u16, (k - 1) as u16);
+    put_node(space, k, middle.kind, (m - 1) as u16, (k - 1) as u16);
     Parsed::To(end + 1, k + 1)
 }
 

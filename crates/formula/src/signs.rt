@@ -3,10 +3,9 @@ ghost use mathlib.Core.Path.{_≡_};
 ghost use mathlib.Core.Bool.{true, false};
 ghost use Prim.Native.Nat.{_≤_};
 ghost use lib.ListN.{length, drop};
-ghost use Rattle.formula.specs.Tree.{Pair};
-ghost use Rattle.formula.specs.Text.{sign, opening};
-ghost use Rattle.formula.specs.Nodes.{prefixKind, pairKind};
-ghost use Rattle.formula.specs.Inside.{begins, SignAt, MiddleAt};
+ghost use Rattle.formula.specs.Text.{sign};
+ghost use Rattle.formula.specs.Nodes.{prefixKind};
+ghost use Rattle.formula.specs.Inside.{begins, SignAt, Bracket, plain, opened, bracketNumber, MiddleAt};
 
 // The kind that a sign stands for, and how many bytes it takes; 0 where there is none.
 pub(crate) struct Sign {
@@ -44,13 +43,28 @@ pub(crate) fn prefix_at(text: &[u8], place: usize) -> Sign
     if stands(b"EX ", text, place) {
         return Sign { kind: 4, size: 3 };
     }
+    if stands(b"AX ", text, place) {
+        return Sign { kind: 9, size: 3 };
+    }
+    if stands(b"EF ", text, place) {
+        return Sign { kind: 10, size: 3 };
+    }
+    if stands(b"AF ", text, place) {
+        return Sign { kind: 11, size: 3 };
+    }
+    if stands(b"EG ", text, place) {
+        return Sign { kind: 12, size: 3 };
+    }
+    if stands(b"AG ", text, place) {
+        return Sign { kind: 13, size: 3 };
+    }
     Sign { kind: 0, size: 0 }
 }
 
-// What begins a pair.
+// The bracket that begins a pair, by the first kind that it begins.
 pub(crate) fn opening_at(text: &[u8], place: usize) -> Sign
     requires { ⌜ place ≤ length (now text) ⌝ }
-    ensures { λ r. ⌜ SignAt opening pairKind (now (text .entry)) place r ⌝ }
+    ensures { λ r. ⌜ SignAt opened bracketNumber (now (text .entry)) place r ⌝ }
 {
     if stands(b"(", text, place) {
         return Sign { kind: 3, size: 1 };
@@ -64,13 +78,36 @@ pub(crate) fn opening_at(text: &[u8], place: usize) -> Sign
     Sign { kind: 0, size: 0 }
 }
 
-// How many bytes the sign between the parts of a pair of this kind takes, 0 where it doesn't stand there.
-pub(crate) fn middle_at(text: &[u8], place: usize, kind: u16) -> usize
+// What joins the parts of a pair with a plain bracket.
+fn joined_at(text: &[u8], place: usize) -> Sign
     requires { ⌜ place ≤ length (now text) ⌝ }
-    ensures { λ r. ⌜ ((q : Pair) → kind ≡ pairKind q → MiddleAt q (now (text .entry)) place r) ⌝ }
+    ensures { λ r. ⌜ MiddleAt plain (now (text .entry)) place r ⌝ }
 {
-    if kind == 3 {
-        return if stands(b"&", text, place) { 1 } else { 0 };
+    if stands(b"&", text, place) {
+        return Sign { kind: 3, size: 1 };
     }
-    if stands(b" U ", text, place) { 3 } else { 0 }
+    if stands(b"|", text, place) {
+        return Sign { kind: 7, size: 1 };
+    }
+    if stands(b">", text, place) {
+        return Sign { kind: 8, size: 1 };
+    }
+    Sign { kind: 0, size: 0 }
+}
+
+// What joins the parts of a pair with any bracket: one with E or A is until's alone.
+pub(crate) fn middle_at(text: &[u8], place: usize, bracket: u16) -> Sign
+    requires { ⌜ place ≤ length (now text) ⌝ }
+    ensures { λ r. ⌜ ((b : Bracket) → bracket ≡ bracketNumber b → MiddleAt b (now (text .entry)) place r) ⌝ }
+{
+    if bracket == 3 {
+        return joined_at(text, place);
+    }
+    if stands(b" U ", text, place) {
+        return Sign {
+            kind: bracket,
+            size: 3,
+        };
+    }
+    Sign { kind: 0, size: 0 }
 }

@@ -9,4 +9,6 @@ pub mod Related
 pub mod Rounds
 pub mod Rest
 pub mod Least
+pub mod Always
 pub mod EndlessPaths
+pub mod AlwaysPaths

@@ -1,10 +1,12 @@
 -- A relation between values that min and max keep holds of two untils if it holds of their rows.
-use Prim.Native.Nat.{ℕ, min, max}
+use mathlib.Core.Path.{_≡_, refl, ap₂}
+use Prim.Native.Nat.{ℕ, _≤_, min, max}
+use native.Mathlib.Omega.{arith}
 use mathlib.Core.List.{List, [], _∷_, map}
 use mathlib.Core.Bool.{Bool, true, false}
 use Rattle.kripke.specs.Transitions.{succs}
 use Rattle.kripke.specs.Until.{next, step, until, untilValue}
-use Rattle.values.specs.Values.{choose}
+use Rattle.values.specs.Values.{choose, top}
 use Rattle.kripke.specs.Walks.{walks}
 use Rattle.lists.specs.Choosing.{best}
 use Rattle.lists.specs.Entries.{at}
@@ -44,3 +46,11 @@ module _ (Rel : ℕ → ℕ → Type 0) (K : Kept Rel) where
   pub until-related : (all : Bool) (es L M R Q : List ℕ) → RowRelated L M → RowRelated R Q → (n s : ℕ) → Rel (until all es L R n s) (until all es M Q n s)
   unfolding until
   until-related all es L M R Q l r n s = best-rows all (untilValue L R) (untilValue M Q) (value-related L M R Q l r) (walks es n s)
+
+-- values stay within 0 to 2
+pub small-kept : Kept (λ (a b : ℕ). a ≤ top)
+small-kept = record { none = omega arith; least = λ a b x y h k. omega arith; greatest = λ a b x y h k. omega arith }
+
+-- equal values give equal values
+pub equal-kept : Kept (λ (a b : ℕ). a ≡ b)
+equal-kept = record { none = refl; least = λ a b x y e h. ap₂ min e h; greatest = λ a b x y e h. ap₂ max e h }

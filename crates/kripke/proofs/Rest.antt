@@ -78,7 +78,7 @@ module _ (all : Bool) (S : ℕ) (es : List ℕ) (G : Graph S es) (L R : List ℕ
     rounds-above n s h =
         ap (above w) (until-step all S es G L R n s h)
         ∙ above-step w (at L s) (at R s) (best (choose all) (map (W n) (succs es s)))
-        ∙ ap (step (above w (at L s)) (above w (at R s))) (sym (best-map (choose all) (above w) (above-choose all w) (map (W n) (succs es s)) (some-map (W n) (succs es s) (G .out s h))) ∙ ap (best (choose all)) (map-map (above w) (W n) (succs es s)))
+        ∙ ap (step (above w (at L s)) (above w (at R s))) (sym (best-map (choose all) (choose all) (above w) (above-choose all w) (map (W n) (succs es s)) (some-map (W n) (succs es s) (G .out s h))) ∙ ap (best (choose all)) (map-map (above w) (W n) (succs es s)))
 
     climbs-above : (n s : ℕ) → s < S → C n s ≤ C (suc n) s
     climbs-above n s h = higher (W n s) (W (suc n) s) (climbs n s h)

@@ -44,7 +44,7 @@ step-choose all l r a b = ap (max r) (by-min all) ∙ by-max all (min l a) (min 
 most-min : (l : ℕ) (xs : List ℕ) → best max (map (min l) xs) ≡ min l (best max xs)
 unfolding best
 most-min l [] = omega arith
-most-min l (x ∷ xs) = best-map max (min l) (λ a b. omega arith) (x ∷ xs) tt
+most-min l (x ∷ xs) = best-map max max (min l) (λ a b. omega arith) (x ∷ xs) tt
 
 pub value-nil : (L R : List ℕ) → untilValue L R [] ≡ 0
 unfolding untilValue best tab
@@ -74,5 +74,5 @@ module _ (all : Bool) (S : ℕ) (es : List ℕ) (G : Graph S es) (L R : List ℕ
       (map-map (untilValue L R) (λ (w : List ℕ). s ∷ w) ws
       ∙ map-same (λ (w : List ℕ). untilValue L R (s ∷ w)) (λ (w : List ℕ). back (untilValue L R w)) (value-cons L R s) ws
       ∙ sym (map-map back (untilValue L R) ws))
-      ∙ best-map (choose all) back (step-choose all (at L s) (at R s)) (map (untilValue L R) ws) (some-map (untilValue L R) ws (joined .0))
+      ∙ best-map (choose all) (choose all) back (step-choose all (at L s) (at R s)) (map (untilValue L R) ws) (some-map (untilValue L R) ws (joined .0))
       ∙ ap back (joined .1)

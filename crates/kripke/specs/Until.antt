@@ -6,7 +6,7 @@ use lib.ListN.{length, take}
 use Rattle.lists.specs.Entries.{at}
 use Rattle.lists.specs.Rows.{tab}
 use Rattle.lists.specs.Choosing.{best, lowest}
-use Rattle.values.specs.Values.{choose}
+use Rattle.values.specs.Values.{top, neg, choose}
 use Rattle.kripke.specs.Transitions.{succs}
 use Rattle.kripke.specs.Walks.{walks}
 
@@ -25,6 +25,14 @@ until all es L R n s = best (choose all) (map (untilValue L R) (walks es n s))
 -- the greatest value of a row among the successors of s; for "all" the least
 unfoldable pub next : Bool → List ℕ → List ℕ → ℕ → ℕ
 next all es row s = best (choose all) (map (at row) (succs es s))
+
+-- true at each of n states
+unfoldable pub everywhere : ℕ → List ℕ
+everywhere n = tab (λ (s : ℕ). top) n
+
+-- not, at each of n states
+unfoldable pub opposite : ℕ → List ℕ → List ℕ
+opposite n row = tab (λ (s : ℕ). neg (at row s)) n
 
 -- right, or left and what comes next
 abbrev pub step : ℕ → ℕ → ℕ → ℕ

@@ -25,12 +25,12 @@ unfolding best
 most-cons x [] = omega arith
 most-cons x (y ∷ ys) = refl
 
--- a rule that goes through op goes through the best
-pub best-map : (op : ℕ → ℕ → ℕ) (f : ℕ → ℕ) → ((a b : ℕ) → f (op a b) ≡ op (f a) (f b)) → (xs : List ℕ) → Some xs → best op (map f xs) ≡ f (best op xs)
+-- a rule that takes op to another takes the best to that other's
+pub best-map : (op op′ : ℕ → ℕ → ℕ) (f : ℕ → ℕ) → ((a b : ℕ) → f (op a b) ≡ op′ (f a) (f b)) → (xs : List ℕ) → Some xs → best op′ (map f xs) ≡ f (best op xs)
 unfolding best
-best-map op f h [] s = absurd s
-best-map op f h (x ∷ []) s = refl
-best-map op f h (x ∷ y ∷ ys) s = ap (op (f x)) (best-map op f h (y ∷ ys) tt) ∙ sym (h x (best op (y ∷ ys)))
+best-map op op′ f h [] s = absurd s
+best-map op op′ f h (x ∷ []) s = refl
+best-map op op′ f h (x ∷ y ∷ ys) s = ap (op′ (f x)) (best-map op op′ f h (y ∷ ys) tt) ∙ sym (h x (best op (y ∷ ys)))
 
 module _ (op : ℕ → ℕ → ℕ) (assoc : (a b c : ℕ) → op (op a b) c ≡ op a (op b c)) where
   pub best-append : (xs ys : List ℕ) → Some xs → Some ys → best op (xs ++ ys) ≡ op (best op xs) (best op ys)

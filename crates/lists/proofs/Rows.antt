@@ -5,7 +5,7 @@ use mathlib.Core.List.{List, [], _∷_, _++_, map, append-assoc, map-append}
 use mathlib.Core.Logic.{⊎-elim}
 use native.Mathlib.Omega.{arith}
 use native.Mathlib.Numerals.{add-one}
-use lib.ListN.{length, getD, take, drop, set, replicate, length-append, length-drop, List·getD-append}
+use lib.ListN.{length, getD, take, drop, set, replicate, length-append, length-drop, List·getD-append, List·getD-eq-default}
 use lib.Seq.{drop-cons, set-at, take-at, drop-at, getD-at, drop-nil}
 use Rattle.lists.specs.Entries.{at}
 use Rattle.lists.specs.Rows.{Filled, tab}
@@ -39,6 +39,10 @@ tab-at f (suc n) s h =
     (λ (e : s ≡ n). rw e (getD-at (tab f n) (f n) [] 0 n (length-tab f n)))
     (λ (l : s < n). List·getD-append (tab f n) (f n ∷ []) 0 s (rw (length-tab f n) l) ∙ tab-at f n s l)
     (last-or-before h)
+
+-- and behind it nothing
+pub tab-past : (f : ℕ → ℕ) (n s : ℕ) → n ≤ s → at (tab f n) s ≡ 0
+tab-past f n s h = List·getD-eq-default (tab f n) 0 {n = s} (rw (length-tab f n) h)
 
 -- a list is the row of its entries
 pub tab-own : (xs : List ℕ) → tab (at xs) (length xs) ≡ xs

@@ -99,10 +99,10 @@ fn right_bound(kind: u16, atoms: usize, i: usize) -> usize
     if kind == 3 {
         return i;
     }
-    if kind == 5 {
-        return i;
+    if kind < 5 {
+        return 1;
     }
-    if kind == 6 {
+    if kind <= 8 {
         return i;
     }
     1

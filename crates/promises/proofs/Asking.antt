@@ -1,6 +1,6 @@
 -- Formulas as people write them: each statement from its crate's own law, and the answer's lines from the meaning of the formula's parts.
 use mathlib.Core.Path.{_≡_, refl, sym, ap, ap₂, subst, _∙_}
-use Prim.Native.Nat.{ℕ, suc, _+_, _*_, _-_, _<_, _≤_, min}
+use Prim.Native.Nat.{ℕ, suc, _+_, _*_, _-_, _<_, _≤_, min, max}
 use mathlib.Core.List.{List, [], _∷_, _++_, map}
 use mathlib.Core.Bool.{true, false}
 use mathlib.Core.Logic.{_⊎_, inl, inr}
@@ -11,10 +11,10 @@ use Rattle.lists.specs.Rows.{fill}
 use Rattle.values.specs.Limits.{mostFormula}
 use Rattle.lists.proofs.Rows.{tab-same}
 use Rattle.values.specs.Values.{neg}
-use Rattle.kripke.specs.Until.{next, until}
+use Rattle.kripke.specs.Until.{everywhere, next, opposite, until}
 use Rattle.model.specs.Model.{Model}
 use Rattle.ctl.specs.Rows.{overInitial}
-use Rattle.formula.specs.Tree.{AND, ATOM, AU, EU, EX, Formula, NOT, TRUE, one, two, size}
+use Rattle.formula.specs.Tree.{AF, AG, AND, ATOM, AU, AX, EF, EG, EU, EX, Formula, IMPLIES, NOT, OR, TRUE, one, two, size}
 use Rattle.formula.specs.Nodes.{nodesOf}
 use Rattle.formula.specs.Text.{textOf}
 use Rattle.formula.specs.Meaning.{value, valueRow}
@@ -123,6 +123,13 @@ value-same m ns TRUE s = refl
 value-same m ns (ATOM a) s = refl
 value-same m ns (one NOT f) s = ap neg (value-same m ns f s)
 value-same m ns (one EX f) s = ap (λ (x : List ℕ). next false (m .transitions) x s) (row-same m ns f (value-same m ns f))
+value-same m ns (one AX f) s = ap (λ (x : List ℕ). neg (next false (m .transitions) (opposite (m .states) x) s)) (row-same m ns f (value-same m ns f))
+value-same m ns (one EF f) s = ap (λ (x : List ℕ). until false (m .transitions) (everywhere (m .states)) x (m .states) s) (row-same m ns f (value-same m ns f))
+value-same m ns (one AF f) s = ap (λ (x : List ℕ). until true (m .transitions) (everywhere (m .states)) x (m .states) s) (row-same m ns f (value-same m ns f))
+value-same m ns (one EG f) s = ap (λ (x : List ℕ). neg (until true (m .transitions) (everywhere (m .states)) (opposite (m .states) x) (m .states) s)) (row-same m ns f (value-same m ns f))
+value-same m ns (one AG f) s = ap (λ (x : List ℕ). neg (until false (m .transitions) (everywhere (m .states)) (opposite (m .states) x) (m .states) s)) (row-same m ns f (value-same m ns f))
+value-same m ns (two OR f g) s = ap₂ max (value-same m ns f s) (value-same m ns g s)
+value-same m ns (two IMPLIES f g) s = ap₂ (λ (x y : ℕ). max (neg x) y) (value-same m ns f s) (value-same m ns g s)
 value-same m ns (two AND f g) s = ap₂ min (value-same m ns f s) (value-same m ns g s)
 value-same m ns (two EU f g) s = ap₂ (λ (x y : List ℕ). until false (m .transitions) x y (m .states) s) (row-same m ns f (value-same m ns f)) (row-same m ns g (value-same m ns g))
 value-same m ns (two AU f g) s = ap₂ (λ (x y : List ℕ). until true (m .transitions) x y (m .states) s) (row-same m ns f (value-same m ns f)) (row-same m ns g (value-same m ns g))

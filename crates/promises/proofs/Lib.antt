@@ -2,6 +2,7 @@ pub mod Accepted
 pub mod Refusals
 pub mod Verdicts
 pub mod Meaning
+pub mod Operators
 pub mod Parts
 pub mod Formulas
 pub mod Asking
@@ -10,4 +11,5 @@ pub mod Paths
 pub mod Labels
 pub mod LineNights
 pub mod Nights
+pub mod KindNights
 pub mod AskedNight

@@ -61,7 +61,7 @@ size m = rowBegin (m .states) (nodeCount (m .nodes))
 pub taken : (m : Model) (before : List ℕ) → judgeRefusal m (size m) ≡ 0 → size m ≤ length before → numberDue m before ≡ 0
 taken m before z h = more-room m (length before) (size m) h (omega arith) ∙ z
 
-row-holds : (m : Model) (k : ℕ) (values : List ℕ) → judgeRefusal m (size m) ≡ 0 → k < nodeCount (m .nodes) → getD (rowsOf m) k [] ≡ values → Holds (Case.row m k values)
+pub row-holds : (m : Model) (k : ℕ) (values : List ℕ) → judgeRefusal m (size m) ≡ 0 → k < nodeCount (m .nodes) → getD (rowsOf m) k [] ≡ values → Holds (Case.row m k values)
 row-holds m k values z l e before after r h p =
     let none = taken m before z h in
     let v : r ≡ Verdicts (verdict (modelVerdict m)) = accepted-verdict m before after r p none in
@@ -74,7 +74,7 @@ row-holds m k values z l e before after r h p =
 model-holds : (m : Model) (v : ℕ) → judgeRefusal m (size m) ≡ 0 → modelVerdict m ≡ v → Holds (Case.model m v)
 model-holds m v z e before after r h p = accepted-verdict m before after r p (taken m before z h) ∙ ap (λ (x : ℕ). Verdicts (verdict x)) e
 
-refused-holds : (m : Model) (n : ℕ) → ((room : ℕ) → judgeRefusal m room ≡ n) → (n ≡ 0 → ⊥) → Holds (Case.refused m n)
+pub refused-holds : (m : Model) (n : ℕ) → ((room : ℕ) → judgeRefusal m room ≡ n) → (n ≡ 0 → ⊥) → Holds (Case.refused m n)
 refused-holds m n e some before after r h p = refused-number m before after r n p (e (length before)) some
 
 text-holds : (text out : List ℕ) (m : Model) → textOutcome text ≡ Outcome.model m → judgeRefusal m (size m) ≡ 0 → size m ≤ mostVerdicts → bytesOf (whole (rowsOf m) (modelVerdict m)) ≡ out → Holds (Case.text text out)

@@ -1,6 +1,6 @@
 -- The rows of a formula's nodes are the rows of its parts: one law by induction on the formula, for any rows before and any nodes behind.
 use mathlib.Core.Path.{_≡_, refl, sym, ap, ap₂, _∙_}
-use Prim.Native.Nat.{ℕ, _+_, min}
+use Prim.Native.Nat.{ℕ, _+_, min, max}
 use mathlib.Core.List.{List, [], _∷_, _++_, append-assoc}
 use native.Mathlib.Omega.{arith}
 use lib.ListN.{length, getD, length-append, List·getD-append}
@@ -10,7 +10,7 @@ use Rattle.model.specs.Kinds.{kindOf}
 use Rattle.model.specs.Model.{Model}
 use Rattle.ctl.specs.Nodes.{nodeRow, nodeValue}
 use Rattle.ctl.specs.Rows.{rowsFrom}
-use Rattle.formula.specs.Tree.{AND, ATOM, AU, EU, EX, Formula, NOT, Pair, Prefix, TRUE, one, size, two}
+use Rattle.formula.specs.Tree.{AF, AG, AND, ATOM, AU, AX, EF, EG, EU, EX, Formula, IMPLIES, NOT, OR, Pair, Prefix, TRUE, one, size, two}
 use Rattle.formula.specs.Nodes.{nodesFrom, pairKind, prefixKind, rootFrom}
 use Rattle.formula.specs.Meaning.{value, valueRow}
 use Rattle.promises.specs.Formulas.{partRows}
@@ -22,10 +22,17 @@ prefix-row : (m : Model) (p : Prefix) (f : Formula) (a : ℕ) (R : List ℕ) →
 unfolding nodeRow nodeValue kindOf value
 prefix-row m NOT f a R = tab-same _ _ (m .states) (λ s l. ap neg (tab-at (value m f) (m .states) s l))
 prefix-row m EX f a R = refl
+prefix-row m AX f a R = refl
+prefix-row m EF f a R = refl
+prefix-row m AF f a R = refl
+prefix-row m EG f a R = refl
+prefix-row m AG f a R = refl
 
 pair-row : (m : Model) (q : Pair) (f g : Formula) (a : ℕ) → nodeRow m (kindOf (pairKind q)) a (valueRow m f) (valueRow m g) ≡ valueRow m (two q f g)
 unfolding nodeRow nodeValue kindOf value
 pair-row m AND f g a = tab-same _ _ (m .states) (λ s l. ap₂ min (tab-at (value m f) (m .states) s l) (tab-at (value m g) (m .states) s l))
+pair-row m OR f g a = tab-same _ _ (m .states) (λ s l. ap₂ max (tab-at (value m f) (m .states) s l) (tab-at (value m g) (m .states) s l))
+pair-row m IMPLIES f g a = tab-same _ _ (m .states) (λ s l. ap₂ (λ (x y : ℕ). max (neg x) y) (tab-at (value m f) (m .states) s l) (tab-at (value m g) (m .states) s l))
 pair-row m EU f g a = refl
 pair-row m AU f g a = refl
 

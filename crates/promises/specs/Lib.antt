@@ -2,9 +2,11 @@ pub mod One
 pub mod Refusals
 pub mod Verdicts
 pub mod Meaning
+pub mod Operators
 pub mod Formulas
 pub mod Asking
 pub mod Text
 pub mod Paths
 pub mod Labels
 pub mod Nights
+pub mod KindNights

@@ -5,7 +5,8 @@ use Prim.Native.Nat.{ℕ, _<_, _≤_}
 use mathlib.Core.List.{List, _++_}
 use mathlib.Core.Logic.{_⊎_, _↔_}
 use lib.ListN.{length}
-use Rattle.values.specs.Rows.{rowIn}
+use Rattle.values.specs.Rows.{rowIn, storedRow}
+use Rattle.kripke.specs.Until.{everywhere}
 use Rattle.model.specs.Model.{Model, kindAt, leftAt, rightAt}
 use Rattle.paths.specs.declared.FirstAnswer.{FirstAnswer}
 use Rattle.paths.specs.declared.FirstAnswer.the-variants as first
@@ -74,10 +75,21 @@ abbrev pub questionOf : Model → List ℕ → ℕ → ℕ → Question
 questionOf m space k level =
     asked (m .states) (m .transitions) (rowIn (m .states) space (leftAt (m .nodes) k)) (rowIn (m .states) space (rightAt (m .nodes) k)) level
 
--- "At the level 'true' there is a first path exactly when the verdict is true; at the level 'possible', exactly when it isn't false. Here the
--- rows are the verdicts of the question's own two parts", "the room being large enough for a shortest one". Node k is E(left U right); level 2
--- is reached by true alone, level 1 by all but false.
-abbrev pub FirstExactly : Type 0
-FirstExactly = Accepting (λ m before after v. (k s level : ℕ) → There m k s → kindAt (m .nodes) k ≡ 5 → (level ≡ 1) ⊎ (level ≡ 2)
-    → (space space′ : List ℕ) (a : FirstAnswer) → RoomFor (questionOf m after k level) s space → FirstPromise (questionOf m after k level) s space space′ a
+-- what it takes for an EF, which is an exists-until with true on its left: the row that is true everywhere, and the row of its part
+abbrev pub eventuallyOf : Model → List ℕ → ℕ → ℕ → Question
+eventuallyOf m space k level = asked (m .states) (m .transitions) (storedRow (everywhere (m .states))) (rowIn (m .states) space (leftAt (m .nodes) k)) level
+
+-- First has a path for a node of this kind exactly where what `judge` wrote for it reaches the level, 2 by true alone, 1 by all but false
+abbrev pub FirstTells : ℕ → (Model → List ℕ → ℕ → ℕ → Question) → Type 0
+FirstTells kind question = Accepting (λ m before after v. (k s level : ℕ) → There m k s → kindAt (m .nodes) k ≡ kind → (level ≡ 1) ⊎ (level ≡ 2)
+    → (space space′ : List ℕ) (a : FirstAnswer) → RoomFor (question m after k level) s space → FirstPromise (question m after k level) s space space′ a
     → (level ≤ written m after k s → (n : ℕ) × (a ≡ first.Path n)) × (written m after k s < level → a ≡ first.None))
+
+-- "At the level 'true' there is a first path exactly when the verdict is true; at the level 'possible', exactly when it isn't false. Here the
+-- rows are the verdicts of the question's own two parts", "the room being large enough for a shortest one". Node k is E(left U right).
+abbrev pub FirstExactly : Type 0
+FirstExactly = FirstTells 5 questionOf
+
+-- The same where node k is EF.
+abbrev pub EventuallyExactly : Type 0
+EventuallyExactly = FirstTells 10 eventuallyOf

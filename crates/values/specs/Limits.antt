@@ -23,7 +23,7 @@ mostFormula = 4096
 
 -- the kinds of nodes are 0 to this
 abbrev pub greatestKind : ℕ
-greatestKind = 6
+greatestKind = 13
 
 -- a label for each state and atom
 abbrev pub mostLabels : ℕ

@@ -14,7 +14,7 @@ pub const MOST_TEXT: usize = 32768;
 
 pub const MOST_FORMULA: usize = 4096;
 
-pub const GREATEST_KIND: u16 = 6;
+pub const GREATEST_KIND: u16 = 13;
 
 pub const MOST_LABELS: usize = MOST_STATES * MOST_ATOMS;
 

@@ -1,6 +1,7 @@
 // The question put to a model: its text is judged, by its own nodes or by a formula's, and the rows are those of the two parts of the
 // node that is asked about.
 use crate::table;
+use crate::table::Parts;
 use crate::telling;
 use crate::words;
 use crate::words::Number;
@@ -44,6 +45,14 @@ fn transitions_read(transitions: &[u16], count: usize) -> &[u16] {
     &transitions[..end]
 }
 
+// A row that is true everywhere, at the front of a space.
+fn put_truth(states: usize, space: &mut [u8]) {
+    if states <= MOST_STATES {
+        let truth = [2u8; MOST_STATES];
+        values::rows::store_row(&truth[..states], space);
+    }
+}
+
 // The model that was judged: its text is read once more, for the transitions and the nodes, in whose place a formula's come.
 fn ask(text: &[u8], word: &[u8], about: Number, verdicts: &[u8], wanted: Wanted) {
     let mut labels = [0u8; MOST_LABELS];
@@ -65,19 +74,24 @@ fn ask(text: &[u8], word: &[u8], about: Number, verdicts: &[u8], wanted: Wanted)
     else {
         return;
     };
-    let parts = table::parts_asked(about, word, n, &mut nodes);
-    if !parts.there {
-        return;
+    let edges = transitions_read(&transitions, e);
+    match table::parts_asked(about, word, n, &mut nodes) {
+        Parts::Until(left, right) => {
+            telling::list(
+                s,
+                edges,
+                row(s, verdicts, left),
+                row(s, verdicts, right),
+                wanted,
+            );
+        }
+        Parts::Eventually(part) => {
+            let mut truth = [0u8; MOST_STATES];
+            put_truth(s, &mut truth);
+            telling::list(s, edges, row(s, &truth, 0), row(s, verdicts, part), wanted);
+        }
+        Parts::None => {}
     }
-    telling::list(
-        s,
-        transitions_read(&transitions, e),
-        row(s, verdicts, parts.left),
-        row(s, verdicts, parts.right),
-        wanted.level,
-        wanted.start,
-        wanted.most,
-    );
 }
 
 fn judge(about: Number, text: &[u8], word: &[u8], verdicts: &mut [u8]) -> Sheet {

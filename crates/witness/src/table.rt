@@ -4,22 +4,17 @@ use crate::words::Number;
 use formula::Read;
 use libc::STDOUT_FILENO;
 
-// The kind of an exists-until.
+// The kinds that ask for a path: an exists-until, and EF, which is one with true on its left.
 const EXISTS_UNTIL: u16 = 5;
 
-// The two parts of an exists-until, where there is one.
-pub(crate) struct Parts {
-    pub(crate) there: bool,
-    pub(crate) left: usize,
-    pub(crate) right: usize,
-}
+const EVENTUALLY: u16 = 10;
 
-fn none() -> Parts {
-    Parts {
-        there: false,
-        left: 0,
-        right: 0,
-    }
+// The two parts of an exists-until, by their nodes.
+pub(crate) enum Parts {
+    Until(usize, usize),
+    // Only the right one: the left one is true everywhere.
+    Eventually(usize),
+    None,
 }
 
 // Whether a model of n nodes has this one.
@@ -55,18 +50,18 @@ fn place(about: Number, word: &[u8], n: usize, nodes: &mut [u16]) -> Number {
     }
 }
 
-fn say_no_until(about: Number) {
+fn say_no_path(about: Number) {
     match about {
         Number::Is(_) => {
             io::write_all(
                 STDOUT_FILENO,
-                b"no question: this node is no exists-until\n",
+                b"no question: this node is no exists-until and no EF\n",
             );
         }
         Number::None => {
             io::write_all(
                 STDOUT_FILENO,
-                b"no question: this formula is no exists-until\n",
+                b"no question: this formula is no exists-until and no EF\n",
             );
         }
     }
@@ -79,19 +74,19 @@ fn wide(number: u16) -> usize {
 // The parts of the node that is asked about, or why there are none said.
 pub(crate) fn parts_asked(about: Number, word: &[u8], n: usize, nodes: &mut [u16]) -> Parts {
     let Number::Is(node) = place(about, word, n, nodes) else {
-        return none();
+        return Parts::None;
     };
     if nodes.len() / 3 <= node {
-        return none();
+        return Parts::None;
     }
     let at = 3 * node;
-    if nodes[at] != EXISTS_UNTIL {
-        say_no_until(about);
-        return none();
-    }
-    Parts {
-        there: true,
-        left: wide(nodes[at + 1]),
-        right: wide(nodes[at + 2]),
+    let left = wide(nodes[at + 1]);
+    match nodes[at] {
+        EXISTS_UNTIL => Parts::Until(left, wide(nodes[at + 2])),
+        EVENTUALLY => Parts::Eventually(left),
+        _ => {
+            say_no_path(about);
+            Parts::None
+        }
     }
 }

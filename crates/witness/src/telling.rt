@@ -1,4 +1,5 @@
 // Lines written out as they come.
+use crate::words::Wanted;
 use answer::MOST_LINE;
 use answer::MOST_PATH_LINE;
 use answer::Written;
@@ -25,29 +26,21 @@ pub(crate) fn refused(number: u8) {
 }
 
 // Path after path, as many as asked for, and how the listing ends.
-pub(crate) fn list(
-    states: usize,
-    transitions: &[u16],
-    left: &[u8],
-    right: &[u8],
-    level: u8,
-    start: usize,
-    most: usize,
-) {
+pub(crate) fn list(states: usize, transitions: &[u16], left: &[u8], right: &[u8], wanted: Wanted) {
     let mut space = [0u16; MOST_STATES];
     let mut line = [0u8; MOST_PATH_LINE];
     let mut call = Call::First {
-        start,
+        start: wanted.start,
         room: MOST_STATES,
     };
-    let mut rest = most;
+    let mut rest = wanted.most;
     loop {
         let listed = listing::write_line(
             states,
             transitions,
             left,
             right,
-            level,
+            wanted.level,
             rest,
             call,
             &mut space,

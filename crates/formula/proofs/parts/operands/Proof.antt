@@ -1,45 +1,35 @@
 -- `operands` meets its contract, line by line.
-use mathlib.Core.Path.{ap, sym}
-use Rattle.formula.specs.InsidePrinting.{sortOf, takes}
-use Rattle.formula.proofs.Sorts.{no-kind}
+use mathlib.Core.Path.{refl, ap, sym}
+use mathlib.Core.List.{[], _∷_}
+use Prim.Native.Nat.{ℕ}
+use lib.Dec.{eqb}
 use borrow.Author.Needs.{needs}
+use borrow.Author.Tests.{eqb-true}
+use Rattle.lists.specs.Entries.{anyBelow}
+use Rattle.formula.specs.InsidePrinting.{sortOf, takes}
+use Rattle.formula.proofs.Tables.{among, last-line}
+use Rattle.formula.proofs.Sorts.{no-kind}
 use Rattle.formula.proofs.parts.operands.Statement.{statement}
 use Rattle.formula.proofs.parts.operands.Tie as tie
 
-returns : tie.Need-returns
-unfolding sortOf
-returns c = search needs
+no-kind-taken : tie.Need-returns
+no-kind-taken c = sym (ap takes (no-kind _ (c .if1 .taken)))
 
-returns-2 : tie.Need-returns-2
-unfolding sortOf
-returns-2 c = search needs
-
-returns-3 : tie.Need-returns-3
-unfolding sortOf
-returns-3 c = search needs
-
-returns-4 : tie.Need-returns-4
-unfolding sortOf
-returns-4 c = search needs
-
-returns-5 : tie.Need-returns-5
-unfolding sortOf
-returns-5 c = search needs
-
-returns-6 : tie.Need-returns-6
-unfolding sortOf
-returns-6 c = search needs
-
-returns-7 : tie.Need-returns-7
-unfolding sortOf
-returns-7 c = search needs
-
-returns-8 : tie.Need-returns-8
-returns-8 c =
-    let rest = c .match .rest in
-    sym (ap takes (no-kind _ (rest .0 .0 .0 .0 .0 .0 .1) (rest .0 .0 .0 .0 .0 .1) (rest .0 .0 .0 .0 .1) (rest .0 .0 .0 .1) (rest .0 .0 .1) (rest .0 .1) (rest .1)))
+one-taken : tie.Need-returns-9
+unfolding sortOf among anyBelow
+one-taken c = eqb-true 1 _ (last-line (8 ∷ 7 ∷ 6 ∷ 5 ∷ 3 ∷ 1 ∷ 0 ∷ []) (λ (k : ℕ). eqb 1 (takes (sortOf k))) refl _ (c .before .if1 .left) (c .match .rest))
 
 pub operands-spec : {M : Type 1} → statement M
+unfolding sortOf
 operands-spec =
     tie.close
-    (tie.spec returns returns-2 returns-3 returns-4 returns-5 returns-6 returns-7 returns-8)
+    (tie.spec
+    no-kind-taken
+    (λ c. search needs)
+    (λ c. search needs)
+    (λ c. search needs)
+    (λ c. search needs)
+    (λ c. search needs)
+    (λ c. search needs)
+    (λ c. search needs)
+    one-taken)

@@ -1,31 +1,27 @@
 -- `signs_size` meets its contract, line by line.
+use mathlib.Core.Path.{refl}
+use mathlib.Core.List.{[], _∷_}
+use mathlib.Core.Bool.{_||_}
 use Prim.Native.Nat.{ℕ}
-use mathlib.Core.Path.{ap, sym}
-use Rattle.formula.specs.InsidePrinting.{sortOf, signs}
-use Rattle.formula.proofs.Sorts.{last-signed}
+use native.Mathlib.Omega.{arith}
+use lib.Dec.{eqb}
 use borrow.Author.Needs.{needs}
+use borrow.Author.Tests.{eqb-true, ne-eqb}
+use Rattle.lists.specs.Entries.{anyBelow}
+use Rattle.formula.specs.InsidePrinting.{sortOf, takes, signs}
+use Rattle.formula.proofs.Tables.{among, last-line}
+use Rattle.formula.proofs.Sorts.{known-kind}
 use Rattle.formula.proofs.parts.signs_size.Statement.{statement}
 use Rattle.formula.proofs.parts.signs_size.Tie as tie
 
-returns : tie.Need-returns
-unfolding sortOf
-returns c = search needs
-
-returns-2 : tie.Need-returns-2
-unfolding sortOf
-returns-2 c = search needs
-
-returns-3 : tie.Need-returns-3
-unfolding sortOf
-returns-3 c = search needs
-
-returns-4 : tie.Need-returns-4
-unfolding sortOf
-returns-4 c = search needs
-
-returns-5 : tie.Need-returns-5
-unfolding sortOf
-returns-5 c = sym (ap (λ (k : ℕ). signs (sortOf k)) (last-signed _ (c .before .pre) (c .match .rest .0 .0 .0 .1) (c .match .rest .0 .0 .1) (c .match .rest .0 .1) (c .match .rest .1)))
+three-signs : tie.Need-returns-4
+unfolding sortOf among anyBelow
+three-signs c =
+    let k = c .before .args .kind in
+    let signed = c .before .pre in
+    let test = last-line (6 ∷ 5 ∷ 2 ∷ []) (λ (k : ℕ). eqb (takes (sortOf k)) 0 || eqb 3 (signs (sortOf k))) refl k (known-kind k (signed .known)) (c .match .rest) in
+    eqb-true 3 (signs (sortOf k)) (rw (ne-eqb (takes (sortOf k)) 0 (λ e. omega (arith, e, signed .some))) at test)
 
 pub signs-size-spec : {M : Type 1} → statement M
-signs-size-spec = tie.close (tie.spec returns returns-2 returns-3 returns-4 returns-5)
+unfolding sortOf
+signs-size-spec = tie.close (tie.spec (λ c. search needs) (λ c. search needs) (λ c. search needs) three-signs)

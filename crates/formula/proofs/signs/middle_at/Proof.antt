@@ -1,48 +1,45 @@
--- `middle_at` meets its contract.
+-- `middle_at` meets its contract, bracket by bracket.
 use mathlib.Core.Path.{_≡_, refl, sym, _∙_}
+use mathlib.Core.Bool.{false}
 use mathlib.Core.Logic.{inl, inr}
+use lib.ListN.{drop}
 use native.Mathlib.Omega.{arith}
-use Rattle.formula.specs.Tree.{Pair}
-use Rattle.formula.specs.Nodes.{pairKind}
-use Rattle.formula.specs.Inside.{MiddleAt}
-use Rattle.formula.proofs.Operators.{each-pair}
+use denote.Ref.{now}
+use Rattle.formula.specs.Tree.{Pair, EU, AU}
+use Rattle.formula.specs.Text.{middle}
+use Rattle.formula.specs.Inside.{begins, Bracket, bracketNumber, MiddleAt}
+use Rattle.formula.proofs.Operators.{each-bracket, each-some, each-every}
 use borrow.Author.Needs.{needs}
 use Rattle.formula.proofs.signs.middle_at.Statement.{statement}
 use Rattle.formula.proofs.signs.middle_at.Tie as tie
 
-slice-aggregate-stands : tie.Need-slice-aggregate-stands
-slice-aggregate-stands c = search needs
-
-stands-requires : tie.Need-stands-requires
-stands-requires c κs = search needs
-
 returns : tie.Need-returns
-returns c = each-pair (λ (q : Pair). c .before .before .before .before .before .args .kind ≡ pairKind q → MiddleAt q (c .before .before .before .before .before .args .text .now) (c .before .before .before .before .before .args .place) 1) (λ e. inl (sym (c .before .stands .ensures) ∙ c .if2 .taken, refl)) (λ e. absurd (omega (arith, e, c .before .before .before .if1 .taken))) (λ e. absurd (omega (arith, e, c .before .before .before .if1 .taken)))
+returns c =
+    let a = c .before .before .before .args in
+    each-bracket (λ (b : Bracket). a .bracket ≡ bracketNumber b → MiddleAt b (now (a .text)) (a .place) (c .joined-at .result))
+    (λ e. c .joined-at .ensures)
+    (λ e. absurd (omega (arith, e, c .before .if1 .taken)))
+    (λ e. absurd (omega (arith, e, c .before .if1 .taken)))
 
 returns-2 : tie.Need-returns-2
-returns-2 c = each-pair (λ (q : Pair). c .before .before .before .before .before .args .kind ≡ pairKind q → MiddleAt q (c .before .before .before .before .before .args .text .now) (c .before .before .before .before .before .args .place) 0) (λ e. inr (sym (c .before .stands .ensures) ∙ c .if2 .left, refl)) (λ e. absurd (omega (arith, e, c .before .before .before .if1 .taken))) (λ e. absurd (omega (arith, e, c .before .before .before .if1 .taken)))
-
-slice-aggregate-stands-2 : tie.Need-slice-aggregate-stands-2
-slice-aggregate-stands-2 c = search needs
-
-stands-requires-2 : tie.Need-stands-requires-2
-stands-requires-2 c κs = search needs
+returns-2 c =
+    let a = c .before .before .before .before .before .args in
+    let until = sym (c .before .stands .ensures) ∙ c .if2 .taken in
+    each-bracket (λ (b : Bracket). a .bracket ≡ bracketNumber b → MiddleAt b (now (a .text)) (a .place) (record { kind = a .bracket; size = 3 }))
+    (λ e. absurd (c .before .before .before .if1 .left e))
+    (λ e. inl (record { pair = EU; within = refl }, until, e, refl))
+    (λ e. inl (record { pair = AU; within = refl }, until, e, refl))
 
 returns-3 : tie.Need-returns-3
-returns-3 c = each-pair (λ (q : Pair). c .before .before .before .before .before .args .kind ≡ pairKind q → MiddleAt q (c .before .before .before .before .before .args .text .now) (c .before .before .before .before .before .args .place) 3) (λ e. absurd (c .before .before .before .if1 .left e)) (λ e. inl (sym (c .before .stands2 .ensures) ∙ c .if3 .taken, refl)) (λ e. inl (sym (c .before .stands2 .ensures) ∙ c .if3 .taken, refl))
-
-returns-4 : tie.Need-returns-4
-returns-4 c = each-pair (λ (q : Pair). c .before .before .before .before .before .args .kind ≡ pairKind q → MiddleAt q (c .before .before .before .before .before .args .text .now) (c .before .before .before .before .before .args .place) 0) (λ e. absurd (c .before .before .before .if1 .left e)) (λ e. inr (sym (c .before .stands2 .ensures) ∙ c .if3 .left, refl)) (λ e. inr (sym (c .before .stands2 .ensures) ∙ c .if3 .left, refl))
+returns-3 c =
+    let a = c .before .before .before .before .before .args in
+    let gone = sym (c .before .stands .ensures) ∙ c .if2 .left in
+    each-bracket (λ (b : Bracket). a .bracket ≡ bracketNumber b → MiddleAt b (now (a .text)) (a .place) (record { kind = 0; size = 0 }))
+    (λ e. absurd (c .before .before .before .if1 .left e))
+    (λ e. inr (each-some (λ (q : Pair). begins (middle q) (drop (a .place) (now (a .text))) ≡ false) gone, refl))
+    (λ e. inr (each-every (λ (q : Pair). begins (middle q) (drop (a .place) (now (a .text))) ≡ false) gone, refl))
 
 pub middle-at-spec : {M : Type 1} → statement M
 middle-at-spec =
     tie.close
-    (tie.spec
-    slice-aggregate-stands
-    stands-requires
-    returns
-    returns-2
-    slice-aggregate-stands-2
-    stands-requires-2
-    returns-3
-    returns-4)
+    (tie.spec (λ c κs. search needs) returns (λ c. search needs) (λ c κs. search needs) returns-2 returns-3)
