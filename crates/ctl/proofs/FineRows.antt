@@ -1,7 +1,7 @@
 -- The rows of a node list have one value a state, each at most 2, and a node's row goes by its operands' values alone.
 use Rattle.lists.specs.Rows.{fill, laid, tab}
 use mathlib.Core.Path.{_≡_, refl, sym, ap, ap₂, _∙_, subst, subst₂}
-use Prim.Native.Nat.{ℕ, _+_, _*_, _%_, _≤_, _<_, min, max}
+use Prim.Native.Nat.{ℕ, _+_, _*_, _%_, _≤_, _<_}
 use mathlib.Core.List.{List, [], _∷_, _++_}
 use native.Mathlib.Omega.{arith}
 use native.Mathlib.Nat.{mul-le-mul-right}
@@ -15,13 +15,11 @@ use Rattle.ctl.specs.Nodes.{nodeRow, nodeValue}
 use Rattle.ctl.specs.Rows.{rowsFrom, storedRows}
 use Rattle.values.specs.Rows.{rowBegin, rowSize, storedRow}
 use Rattle.kripke.specs.Until.{next}
-use Rattle.values.specs.Values.{neg, top}
+use Rattle.values.specs.Values.{top}
 use Rattle.lists.specs.Entries.{All, at}
 use Rattle.ctl.proofs.NodeLists.{firstRows, rowMore, rows-count, rows-next, rows-none, rows-whole}
-use Rattle.ctl.proofs.Related.{equal, Kleene, node-related, rows-related, small}
+use Rattle.ctl.proofs.Related.{equal, node-related, rows-related, small}
 use Rattle.ctl.proofs.Spaces.{operand-in-space, rows-fit, space-length, space-more, space-none}
-use Rattle.kripke.proofs.Least.{least}
-use Rattle.kripke.proofs.Related.{Kept}
 use Rattle.lists.proofs.Entries.{all-from, all-get}
 use Rattle.lists.proofs.Rows.{length-tab, tab-same}
 

@@ -2,7 +2,7 @@
 use mathlib.Core.Path.{_≡_, refl, ap, subst}
 use Prim.Native.Nat.{ℕ}
 use mathlib.Core.List.{List}
-use Rattle.model.specs.Kinds.{Kind, TRUE, kindOf}
+use Rattle.model.specs.Kinds.{Kind, kindOf}
 use Rattle.model.specs.Model.{Model}
 use Rattle.model.proofs.KindLaws.{each-kind}
 use Rattle.ctl.specs.Inside.{plainValue}

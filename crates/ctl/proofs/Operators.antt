@@ -1,21 +1,20 @@
 -- The clauses of AX, EF, AF, EG, AG and or meet what they must: one law for each form, over "some" and "all".
-use mathlib.Core.Path.{_≡_, refl, sym, ap, ap₂, _∙_, subst, subst₂}
+use mathlib.Core.Path.{_≡_, refl, sym, ap, ap₂, _∙_, subst}
 use Prim.Native.Nat.{ℕ, _≤_, _<_, min, max}
 use mathlib.Core.List.{List, []}
 use mathlib.Core.Bool.{Bool, true, false, not}
 use mathlib.Core.Logic.{_↔_}
 use native.Mathlib.Omega.{arith}
-use lib.ListN.{length}
 use Rattle.lists.specs.Entries.{at}
 use Rattle.lists.specs.Rows.{tab}
 use Rattle.values.specs.Values.{neg, top}
 use Rattle.kripke.specs.Transitions.{Graph}
-use Rattle.kripke.specs.Until.{everywhere, next, opposite, until}
+use Rattle.kripke.specs.Until.{next, opposite}
 use Rattle.kripke.specs.Endless.{EveryHas, EveryKeeps, SomeHas, SomeKeeps}
 use Rattle.model.specs.Model.{Model}
 use Rattle.model.specs.Kinds.{AF, AG, AND, AX, EF, EG, EX, IMPLIES, Kind, OR}
 use Rattle.ctl.specs.Nodes.{nodeRow, nodeValue}
-use Rattle.ctl.specs.Operators.{Dual, EveryNext, Greatest, Least, OnRows, RowFine, Says, SomeNext, Unfolds, ofOne, ofTwo, rowOf}
+use Rattle.ctl.specs.Operators.{Dual, EveryNext, Greatest, Least, OnRows, RowFine, Says, SomeNext, Unfolds, ofTwo, rowOf}
 use Rattle.kripke.proofs.Always.{all-next, always, always-greatest, always-small, always-unfolds, eventually, eventually-least, eventually-small, eventually-unfolds, next-small, opposite-at, small-opposite, small-tab}
 use Rattle.kripke.proofs.AlwaysPaths.{every-has, every-keeps, some-has, some-keeps}
 use Rattle.kripke.proofs.Nexts.{next-every, next-reaches}

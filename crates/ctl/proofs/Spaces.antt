@@ -14,7 +14,6 @@ use Rattle.ctl.specs.Operators.{RowFine}
 use Rattle.ctl.specs.Rows.{storedRows}
 use Rattle.values.specs.Limits.{mostStates}
 use Rattle.values.specs.Rows.{badRow, held, rowBegin, rowIn, rowSize, rowValues, storedRow, valueAt}
-use Rattle.values.specs.Values.{top}
 use Rattle.lists.specs.Entries.{All, at}
 use Rattle.values.proofs.StoredRows.{stored-size, stored-valid, stored-values}
 use Rattle.lists.proofs.Entries.{all-get}

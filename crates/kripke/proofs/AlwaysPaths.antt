@@ -1,5 +1,5 @@
 -- What eventually and always say of endless paths, at every level.
-use mathlib.Core.Path.{_≡_, sym, subst}
+use mathlib.Core.Path.{sym, subst}
 use Prim.Native.Nat.{ℕ, zero, suc, _-_, _≤_, _<_}
 use mathlib.Core.List.{List}
 use mathlib.Core.Bool.{true, false}
@@ -8,7 +8,7 @@ use native.Mathlib.Omega.{arith}
 use Rattle.kripke.specs.Endless.{Endless, EveryHas, EveryKeeps, Settles, SomeHas, SomeKeeps}
 use Rattle.kripke.specs.Transitions.{Graph}
 use Rattle.kripke.specs.Until.{everywhere, opposite}
-use Rattle.values.specs.Values.{neg, top}
+use Rattle.values.specs.Values.{top}
 use Rattle.lists.specs.Entries.{at}
 use Rattle.kripke.proofs.Always.{always, eventually, eventually-small, everywhere-at, opposite-at, small-opposite}
 use Rattle.kripke.proofs.EndlessPaths.{A-misses, A-paths, E-paths}

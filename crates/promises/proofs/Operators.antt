@@ -1,9 +1,6 @@
 -- The operators of request 4, from the laws of judging.
-use mathlib.Core.Path.{refl, ap, _∙_}
-use Prim.Native.Nat.{ℕ}
+use mathlib.Core.Path.{refl}
 use mathlib.Core.Bool.{true, false}
-use lib.ListN.{length}
-use Rattle.values.specs.Rows.{rowIn, rowValues}
 use Rattle.model.specs.Model.{kindAt}
 use Rattle.promises.specs.Operators.{Dualities, EndlessPaths, ImpliesOr, LeastAndGreatest, NextStates, PartsDecide, Unfoldings}
 use Rattle.ctl.proofs.Held.{part-held, row-kept}

@@ -1,7 +1,6 @@
 -- `right_bound` meets its contract: by the kind's number.
 use mathlib.Core.Path.{sym, ap}
 use Prim.Native.Nat.{ℕ}
-use native.Mathlib.Omega.{arith}
 use Rattle.model.specs.Kinds.{bound, kindOf, uses}
 use Rattle.model.proofs.KindLaws.{right-node, right-unused, right-unused-later}
 use Rattle.model.proofs.refusals.right_bound.Statement.{statement}
