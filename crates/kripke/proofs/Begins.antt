@@ -1,4 +1,4 @@
--- Where a state's transitions begin: a scan from the front, and that the successors of s stand from there to where those of s + 1 begin.
+-- Where a state's transitions begin: what tells the place, and that the successors of s stand from there to where those of s + 1 begin.
 use mathlib.Core.Path.{_≡_, refl, sym, ap, _∙_}
 use Prim.Native.Nat.{ℕ, zero, suc, _+_, _*_, _-_, _/_, _≤_, _<_}
 use mathlib.Core.List.{List, [], _∷_}
@@ -6,8 +6,7 @@ use mathlib.Core.Bool.{Bool, true, false, cond, _&&_, _||_, true≢false}
 use mathlib.Core.Logic.{_⊎_, inl, inr, ⊎-elim}
 use native.Mathlib.Omega.{arith}
 use native.Mathlib.Nat.{eq-or-lt-of-le}
-use lib.ListN.{length, drop, length-drop}
-use lib.Seq.{drop-cons}
+use lib.ListN.{length}
 use lib.Dec.{eqb, ltb}
 use borrow.Author.Tests.{lt-ltb, le-ltb, eq-eqb, ne-eqb, ltb-true, eqb-true, eqb-false}
 use Rattle.kripke.specs.Transitions.{Ascending, count, ends, firstOut, from, succs, to}
@@ -15,32 +14,22 @@ use Rattle.lists.specs.Entries.{All, Some, at, isNil}
 use Rattle.lists.proofs.Entries.{nil-of}
 use Rattle.lists.proofs.Numbers.{lt-or-le}
 
--- the transitions two numbers at a time
-pub drop-two : (es : List ℕ) (k : ℕ) → k < count es → drop (2 * k) es ≡ from es k ∷ to es k ∷ drop (2 * (k + 1)) es
-drop-two es k h =
-    let one : suc (2 * k) ≡ 2 * k + 1 = omega arith in
-    let two : suc (2 * k + 1) ≡ 2 * (k + 1) = omega arith in
-    drop-cons es (2 * k) 0 (omega arith)
-    ∙ ap (λ (r : List ℕ). from es k ∷ r) (ap (λ (j : ℕ). drop j es) one ∙ drop-cons es (2 * k + 1) 0 (omega arith) ∙ ap (λ (j : ℕ). to es k ∷ drop j es) two)
+-- the transitions behind the first one
+pub from-tail : (f t : ℕ) (es : List ℕ) (k : ℕ) → from (f ∷ t ∷ es) (suc k) ≡ from es k
+from-tail f t es k = let e : 2 * suc k ≡ suc (suc (2 * k)) = omega arith in ap (at (f ∷ t ∷ es)) e
 
-none-left : (xs : List ℕ) (s : ℕ) → length xs ≤ 1 → firstOut xs s ≡ 0
+pub to-tail : (f t : ℕ) (es : List ℕ) (k : ℕ) → to (f ∷ t ∷ es) (suc k) ≡ to es k
+to-tail f t es k = let e : 2 * suc k + 1 ≡ suc (suc (2 * k + 1)) = omega arith in ap (at (f ∷ t ∷ es)) e
+
+-- the place is told by what stands there: before it only transitions from earlier states, at it one from s or a later state, or none
+pub first-is : (es : List ℕ) (s k : ℕ) → k ≤ count es → ((j : ℕ) → j < k → from es j < s) → (k < count es → s ≤ from es k) → k ≡ firstOut es s
 unfolding firstOut
-none-left [] s h = refl
-none-left (x ∷ []) s h = refl
-none-left (x ∷ y ∷ xs) s h = absurd (omega arith)
-
--- a scan that has passed k transitions: the next one is passed too, is the first, or there is none
-module _ (es : List ℕ) (s k : ℕ) where
-  pub first-passed : k < count es → from es k < s → firstOut (drop (2 * k) es) s ≡ suc (firstOut (drop (2 * (k + 1)) es) s)
-  unfolding firstOut
-  first-passed h l = rw (drop-two es k h, lt-ltb (from es k) s l)
-
-  pub first-here : k < count es → s ≤ from es k → firstOut (drop (2 * k) es) s ≡ 0
-  unfolding firstOut
-  first-here h l = rw (drop-two es k h, le-ltb (from es k) s l)
-
-  pub first-none : count es ≤ k → firstOut (drop (2 * k) es) s ≡ 0
-  first-none h = none-left (drop (2 * k) es) s (simp length-drop (omega arith))
+first-is [] s k h before here = omega arith
+first-is (f ∷ []) s k h before here = omega arith
+first-is (f ∷ t ∷ es) s zero h before here = rw (le-ltb f s (here (omega arith)))
+first-is (f ∷ t ∷ es) s (suc k) h before here =
+    rw (lt-ltb f s (before 0 (omega arith)))
+    (ap suc (first-is es s k (omega arith) (λ j l. rw (from-tail f t es j) at (before (suc j) (omega arith))) (λ l. rw (from-tail f t es k) at (here (omega arith)))))
 
 pub first-within : (es : List ℕ) (s : ℕ) → firstOut es s ≤ count es
 unfolding firstOut
@@ -53,7 +42,7 @@ first-within (f ∷ t ∷ es) s = go (ltb f s) (first-within es s)
     go false h = omega arith
 
 -- ascending lists, by their pairs
-froms-rise : (es : List ℕ) → Ascending es → (k : ℕ) → suc k < count es → from es k ≤ from es (suc k)
+pub froms-rise : (es : List ℕ) → Ascending es → (k : ℕ) → suc k < count es → from es k ≤ from es (suc k)
 froms-rise es asc k h = go (ltb f g) (eqb f g) refl refl (asc k h)
   where
     f : ℕ
@@ -66,12 +55,6 @@ froms-rise es asc k h = go (ltb f g) (eqb f g) refl refl (asc k h)
     go true y p q r = omega (arith, ltb-true f g p)
     go false true p q r = omega (arith, eqb-true f g q)
     go false false p q r = absurd (true≢false (sym r))
-
-pub from-tail : (f t : ℕ) (es : List ℕ) (k : ℕ) → from (f ∷ t ∷ es) (suc k) ≡ from es k
-from-tail f t es k = let e : 2 * suc k ≡ suc (suc (2 * k)) = omega arith in ap (at (f ∷ t ∷ es)) e
-
-pub to-tail : (f t : ℕ) (es : List ℕ) (k : ℕ) → to (f ∷ t ∷ es) (suc k) ≡ to es k
-to-tail f t es k = let e : 2 * suc k + 1 ≡ suc (suc (2 * k + 1)) = omega arith in ap (at (f ∷ t ∷ es)) e
 
 pub ascending-tail : (f t : ℕ) (es : List ℕ) → Ascending (f ∷ t ∷ es) → Ascending es
 ascending-tail f t es asc k h = rw (from-tail f t es k, from-tail f t es (suc k), to-tail f t es k, to-tail f t es (suc k)) at (asc (suc k) (omega arith))

@@ -1,4 +1,5 @@
 pub mod Begins
+pub mod Halving
 pub mod Refusals
 pub mod Read
 pub mod Successors

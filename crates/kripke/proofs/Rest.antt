@@ -17,6 +17,7 @@ use Rattle.kripke.proofs.Steps.{until-one, until-step}
 use Rattle.kripke.proofs.Successors.{succs-states}
 use Rattle.lists.proofs.Choosing.{best-map, best-related}
 use Rattle.lists.proofs.Entries.{all-weaken, some-map}
+use Rattle.lists.proofs.Numbers.{never-falls}
 use Rattle.lists.proofs.Sums.{sum, sum-const, sum-le, sum-same}
 
 -- 1 where a value is above w, and otherwise 0
@@ -144,14 +145,10 @@ module _ (all : Bool) (S : ℕ) (es : List ℕ) (G : Graph S es) (L R : List ℕ
 
   -- no walk length gives more
   pub never-above : (n s : ℕ) → s < S → until all es L R (suc n) s ≤ until all es L R S s
-  never-above n s h = rw (enough (suc n) s h) (subst (λ (k : ℕ). W n s ≤ until all es L R k s) size (climb S))
+  never-above n s h = rw (enough (suc n) s h) (subst (λ (k : ℕ). W n s ≤ until all es L R k s) size (never-falls (λ (k : ℕ). W k s) (suc (n + S)) (λ k l. climbs k s h) n (n + S) (omega arith) (omega arith)))
     where
       size : suc (n + S) ≡ S + suc n
       size = omega arith
-
-      climb : (d : ℕ) → W n s ≤ W (n + d) s
-      climb zero = let e : n ≡ n + 0 = omega arith in subst (λ (k : ℕ). W n s ≤ W k s) e (omega arith)
-      climb (suc d) = let e : suc (n + d) ≡ n + suc d = omega arith in subst (λ (k : ℕ). W n s ≤ W k s) e (omega (arith, climb d, climbs (n + d) s h))
 
   -- E and A over walks of S states satisfy their equation
   pub settled : (s : ℕ) → s < S → until all es L R S s ≡ step (at L s) (at R s) (best (choose all) (map (until all es L R S) (succs es s)))

@@ -110,16 +110,19 @@ fn first_out(transitions: &[u16], s: usize) -> usize
     requires { ⌜ Ascending (now transitions) ⌝ }
     ensures { λ r. ⌜ r ≡ firstOut (now (transitions .entry)) s ⌝ }
 {
-    let n = transitions.len() / 2;
-    let mut k: usize = 0;
-    while k < n {
-        let from = transitions[2 * k] as usize;
-        if s <= from {
-            return k;
+    // before low every transition is from an earlier state, from high on none is
+    let mut low: usize = 0;
+    let mut high = transitions.len() / 2;
+    while low < high {
+        let middle = low + (high - low) / 2;
+        let from = transitions[2 * middle] as usize;
+        if from < s {
+            low = middle + 1;
+        } else {
+            high = middle;
         }
-        k += 1;
     }
-    k
+    low
 }
 
 // The beginnings of all states, and behind them the end of the last one's, at the front of a space.

@@ -1,6 +1,6 @@
--- Two numbers compared, and a number told by the levels that it reaches.
-use mathlib.Core.Path.{_≡_, refl}
-use Prim.Native.Nat.{ℕ, suc, _≤_, _<_, max}
+-- Two numbers compared, a number told by the levels that it reaches, and numbers in a row that fall at no step.
+use mathlib.Core.Path.{_≡_, refl, ap}
+use Prim.Native.Nat.{ℕ, zero, suc, _≤_, _<_, max}
 use native.Mathlib.Omega.{arith}
 use mathlib.Core.Bool.{Bool, true, false}
 use mathlib.Core.Logic.{_⊎_, inl, inr, ⊎-elim}
@@ -21,3 +21,13 @@ last-or-before h = eq-or-lt-of-le (omega arith)
 
 pub reach-max : (w a b : ℕ) → w ≤ max a b → (w ≤ a) ⊎ (w ≤ b)
 reach-max w a b h = ⊎-elim (λ (l : a < w). inr (omega arith)) inl (lt-or-le a w)
+
+-- what falls at no step below n has fallen nowhere below n
+module _ (f : ℕ → ℕ) (n : ℕ) (steps : (k : ℕ) → suc k < n → f k ≤ f (suc k)) where
+  pub never-falls : (j k : ℕ) → j ≤ k → k < n → f j ≤ f k
+  never-falls j zero l h = let e : j ≡ 0 = omega arith in omega (arith, ap f e)
+  never-falls j (suc k) l h =
+      ⊎-elim
+      (λ (e : j ≡ suc k). omega (arith, ap f e))
+      (λ (b : j < suc k). omega (arith, never-falls j k (omega arith) (omega arith), steps k h))
+      (eq-or-lt-of-le l)

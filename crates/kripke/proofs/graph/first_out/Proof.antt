@@ -1,22 +1,25 @@
--- `first_out` meets its contract: what was passed and what the rest gives is the whole.
-use mathlib.Core.Path.{_≡_}
-use Prim.Native.Nat.{_+_, _*_, _-_, _≤_}
+-- `first_out` meets its contract: each look at the middle halves what lies between low and high, until nothing does.
+use Prim.Native.Nat.{_*_, _+_, _-_, _/_}
 use native.Mathlib.Omega.{arith}
-use lib.ListN.{drop}
 use borrow.Author.Needs.{needs}
-use Rattle.kripke.specs.Transitions.{firstOut}
-use Rattle.kripke.proofs.Begins.{first-here, first-none, first-passed}
+use Rattle.kripke.proofs.Halving.{Between, between-all, closed-in, lower-half, upper-half}
 use Rattle.kripke.proofs.graph.first_out.Statement.{statement}
 use Rattle.kripke.proofs.graph.first_out.Tie as tie
 
 abbrev Inv-loop : tie.InvT-loop
-Inv-loop transitions s n k₀ k = (k ≤ n) × (k + firstOut (drop (2 * k) transitions) s ≡ firstOut transitions s)
+Inv-loop transitions s low₀ high₀ low high = Between transitions s low high
 
 abbrev μ-loop : tie.MeasureT-loop
-μ-loop transitions s n k₀ k = n - k
+μ-loop transitions s low₀ high₀ low high = high - low
 
 loop-holds : tie.Need-loop-holds Inv-loop μ-loop
-loop-holds c = (omega arith, omega arith)
+loop-holds c = between-all _ _
+
+sub-middle : tie.Need-sub-middle Inv-loop μ-loop
+sub-middle c = search needs
+
+add-middle : tie.Need-add-middle Inv-loop μ-loop
+add-middle c = search needs
 
 mul-from : tie.Need-mul-from Inv-loop μ-loop
 mul-from c = search needs
@@ -28,30 +31,31 @@ shared-slice-read-from : tie.Need-shared-slice-read-from Inv-loop μ-loop
 shared-slice-read-from c = search needs
 
 cast-from : tie.Need-cast-from Inv-loop μ-loop
-cast-from c = omega (arith, c .shared-slice-known .given (2 * c .before .before .loop .k))
+cast-from c =
+    let l = c .before .before .loop in
+    omega (arith, c .shared-slice-known .given (2 * (l .low + (l .high - l .low) / 2)))
 
-returns : tie.Need-returns Inv-loop μ-loop
-returns c =
-    let x = c .before .before .before .before .args in
-    let l = c .before .before .before .loop in
-    omega (arith, l .inv .1, first-here (x .transitions .now) (x .s) (l .k) (omega arith) (c .if1 .taken))
-
-add-k : tie.Need-add-k Inv-loop μ-loop
-add-k c = search needs
+add-low : tie.Need-add-low Inv-loop μ-loop
+add-low c = search needs
 
 loop-less : tie.Need-loop-less Inv-loop μ-loop
 loop-less c = search needs
 
 loop-again : tie.Need-loop-again Inv-loop μ-loop
 loop-again c =
-    let x = c .before .before .before .before .args in
-    let l = c .before .before .before .loop in
-    (omega arith, omega (arith, l .inv .1, first-passed (x .transitions .now) (x .s) (l .k) (omega arith) (c .if1 .left)))
+    let x = c .before .before .before .before in
+    upper-half (x .args .transitions .now) (x .pre) _ _ _ _ (c .before .before .before .loop .inv) (omega arith) (omega arith)
 
-returns-2 : tie.Need-returns-2 Inv-loop μ-loop
-returns-2 c =
-    let x = c .before .before .args in
-    omega (arith, c .before .loop .inv .1, first-none (x .transitions .now) (x .s) (c .before .loop .k) (omega arith))
+loop-less-2 : tie.Need-loop-less-2 Inv-loop μ-loop
+loop-less-2 c = search needs
+
+loop-again-2 : tie.Need-loop-again-2 Inv-loop μ-loop
+loop-again-2 c =
+    let x = c .before .before .before .before in
+    lower-half (x .args .transitions .now) (x .pre) _ _ _ _ (c .before .before .before .loop .inv) (omega arith) (omega arith) (omega arith)
+
+returns : tie.Need-returns Inv-loop μ-loop
+returns c = closed-in _ _ _ _ (c .before .loop .inv) (c .loop-test .left)
 
 pub first-out-spec : {M : Type 1} → statement M
 first-out-spec =
@@ -60,12 +64,15 @@ first-out-spec =
     Inv-loop
     μ-loop
     loop-holds
+    sub-middle
+    add-middle
     mul-from
     mul-from-2
     shared-slice-read-from
     cast-from
-    returns
-    add-k
+    add-low
     loop-less
     loop-again
-    returns-2)
+    loop-less-2
+    loop-again-2
+    returns)
