@@ -1,8 +1,11 @@
 -- Where a state's transitions begin, found by halving: what is known before low and from high on stays known as the two close in on the place.
 use mathlib.Core.Path.{_≡_}
-use Prim.Native.Nat.{ℕ, _+_, _≤_, _<_}
+use Prim.Native.Nat.{ℕ, zero, suc, _+_, _*_, _^_, _≤_, _<_}
 use mathlib.Core.List.{List}
 use native.Mathlib.Omega.{arith}
+use native.Mathlib.Nat.{pow-succ'}
+use lib.Ieee.{size}
+use lib.Ieee.Digits.{size-le, size-lt}
 use Rattle.kripke.specs.Transitions.{Ascending, count, firstOut, from}
 use Rattle.kripke.proofs.Begins.{first-is, froms-rise}
 use Rattle.lists.proofs.Numbers.{never-falls}
@@ -30,3 +33,11 @@ module _ (es : List ℕ) (asc : Ascending es) (s low high middle : ℕ) (b : Bet
 
 pub closed-in : (es : List ℕ) (s low high : ℕ) → Between es s low high → high ≤ low → low ≡ firstOut es s
 closed-in es s low high b e = first-is es s low (omega arith) (b .before) (λ l. b .behind low e l)
+
+-- what is left after a look is at most half, which has a binary digit less: so many looks are enough
+pub half-shorter : (m n : ℕ) → 2 * m ≤ n → 0 < n → size m < size n
+half-shorter m n h p = go (size n) (size-lt n)
+  where
+    go : (k : ℕ) → n < 2 ^ k → size m < k
+    go zero l = absurd (omega arith)
+    go (suc k) l = omega (arith, size-le m k (omega (arith, pow-succ' 2 k)))

@@ -1,8 +1,10 @@
--- `first_out` meets its contract: each look at the middle halves what lies between low and high, until nothing does.
-use Prim.Native.Nat.{_*_, _+_, _-_, _/_}
+-- `first_out` meets its contract, and looks at no more transitions than their number has binary digits: that is the measure.
+use Prim.Native.Nat.{_-_}
 use native.Mathlib.Omega.{arith}
+use lib.Ieee.{size}
 use borrow.Author.Needs.{needs}
-use Rattle.kripke.proofs.Halving.{Between, between-all, closed-in, lower-half, upper-half}
+use mir.Facts.{fits-widen}
+use Rattle.kripke.proofs.Halving.{Between, between-all, closed-in, half-shorter, lower-half, upper-half}
 use Rattle.kripke.proofs.graph.first_out.Statement.{statement}
 use Rattle.kripke.proofs.graph.first_out.Tie as tie
 
@@ -10,7 +12,7 @@ abbrev Inv-loop : tie.InvT-loop
 Inv-loop transitions s low₀ high₀ low high = Between transitions s low high
 
 abbrev μ-loop : tie.MeasureT-loop
-μ-loop transitions s low₀ high₀ low high = high - low
+μ-loop transitions s low₀ high₀ low high = size (high - low)
 
 loop-holds : tie.Need-loop-holds Inv-loop μ-loop
 loop-holds c = between-all _ _
@@ -31,15 +33,13 @@ shared-slice-read-from : tie.Need-shared-slice-read-from Inv-loop μ-loop
 shared-slice-read-from c = search needs
 
 cast-from : tie.Need-cast-from Inv-loop μ-loop
-cast-from c =
-    let l = c .before .before .loop in
-    omega (arith, c .shared-slice-known .given (2 * (l .low + (l .high - l .low) / 2)))
+cast-from c = fits-widen tt (c .shared-slice-known .given _)
 
 add-low : tie.Need-add-low Inv-loop μ-loop
 add-low c = search needs
 
 loop-less : tie.Need-loop-less Inv-loop μ-loop
-loop-less c = search needs
+loop-less c = half-shorter _ _ (omega arith) (omega arith)
 
 loop-again : tie.Need-loop-again Inv-loop μ-loop
 loop-again c =
@@ -47,7 +47,7 @@ loop-again c =
     upper-half (x .args .transitions .now) (x .pre) _ _ _ _ (c .before .before .before .loop .inv) (omega arith) (omega arith)
 
 loop-less-2 : tie.Need-loop-less-2 Inv-loop μ-loop
-loop-less-2 c = search needs
+loop-less-2 c = half-shorter _ _ (omega arith) (omega arith)
 
 loop-again-2 : tie.Need-loop-again-2 Inv-loop μ-loop
 loop-again-2 c =
