@@ -15,14 +15,10 @@ use Rattle.values.specs.Rows.{badRow, rowBegin, rowIn, rowSize, rowValues, valu
 use Rattle.values.specs.Values.{top}
 use Rattle.lists.specs.Entries.{at}
 use Rattle.values.proofs.StoredRows.{row-read, row-values-small}
+use Rattle.lists.proofs.Entries.{zero-at}
 use Rattle.lists.proofs.Rows.{tab-at}
 use Rattle.lists.proofs.Tests.{and-both}
 use Rattle.values.specs.declared.rows.Row.{Row}
-
-zero-at : (n s : ℕ) → at (replicate n 0) s ≡ 0
-zero-at zero s = refl
-zero-at (suc n) zero = refl
-zero-at (suc n) (suc s) = zero-at n s
 
 -- zeros behind a row change no value
 pub behind-zeros : (xs : List ℕ) (n s : ℕ) → at (xs ++ replicate n 0) s ≡ at xs s

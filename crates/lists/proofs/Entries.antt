@@ -3,10 +3,22 @@ use mathlib.Core.Path.{_≡_, refl, sym, subst}
 use Prim.Native.Nat.{ℕ, zero, suc, _<_}
 use mathlib.Core.List.{List, [], _∷_, _++_, map, List·Memᴰ, List·Memᴰ·head, List·Memᴰ·tail, List·Memᴰ·not-nil}
 use mathlib.Core.Bool.{false}
+use mathlib.Core.Logic.{_⊎_, inl, inr, ⊎-elim}
 use native.Mathlib.Omega.{arith}
-use lib.ListN.{length, getD}
+use lib.ListN.{length, getD, replicate, set}
+use lib.Seq.{getD-set-same, getD-set-other}
 use lib.Dec.{T}
 use Rattle.lists.specs.Entries.{All, Some, at, isNil}
+use Rattle.lists.proofs.Numbers.{same-or-not}
+
+pub zero-at : (n s : ℕ) → at (replicate n 0) s ≡ 0
+zero-at zero s = refl
+zero-at (suc n) zero = refl
+zero-at (suc n) (suc s) = zero-at n s
+
+-- what stands at s after a store at a
+pub set-at-or-not : (d : List ℕ) (a x s : ℕ) → a < length d → ((s ≡ a) × (at (set d a x) s ≡ x)) ⊎ ((s ≡ a → ⊥) × (at (set d a x) s ≡ at d s))
+set-at-or-not d a x s h = ⊎-elim (λ e. inl (e, rw e (getD-set-same d a x 0 h))) (λ n. inr (n, getD-set-other d a s x 0 n)) (same-or-not s a)
 
 pub some-map {ℓ κ} : {A : Type ℓ} {B : Type κ} (f : A → B) (xs : List A) → Some xs → Some (map f xs)
 some-map f [] h = h

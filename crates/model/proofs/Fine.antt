@@ -9,8 +9,8 @@ use lib.Dec.{eqb, ltb}
 use borrow.Author.Tests.{le-ltb, ltb-true, ltb-false, eqb-true, not-false}
 use Rattle.model.specs.Model.{Initial, Model, kindAt, leftAt, nodeCount, rightAt}
 use Rattle.model.specs.Kinds.{Kind, bound, kindOf, uses}
-use Rattle.model.specs.Inside.{AtomFits, Fine}
-use Rattle.model.specs.Refusals.{badInitial, badNodes, badOperand, judgeRefusal, labelCauses}
+use Rattle.model.specs.Inside.{AtomFits, Fine, NodesFit}
+use Rattle.model.specs.Refusals.{badInitial, badNodes, badOperand, judgeRefusal, labelCauses, unnamed}
 use Rattle.lists.specs.Causes.{cause, refusalOf}
 use Rattle.values.specs.Limits.{greatestKind, mostAtoms}
 use Rattle.values.specs.Rows.{rowBegin, someAbove}
@@ -29,6 +29,9 @@ atom-fits : (A : ℕ) (ns : List ℕ) (i : ℕ) → badOperand A ns i ≡ false 
 atom-fits A ns i e k =
     let below : leftAt ns i < bound (uses (kindOf (kindAt ns i)) .0) A i = ltb-true _ _ (not-false _ (or-neither _ (not (ltb (rightAt ns i) (bound (uses (kindOf (kindAt ns i)) .1) A i))) e .0)) in
     subst (λ (x : Kind). leftAt ns i < bound (uses x .0) A i) k below
+
+pub nodes-fit : (A : ℕ) (ns : List ℕ) → badNodes ns ≡ false → anyBelow (badOperand A ns) (nodeCount ns) ≡ false → NodesFit A ns
+nodes-fit A ns e q = record { triples = nodes-size ns e .2; atoms = λ i h. atom-fits A ns i (any-none (badOperand A ns) (nodeCount ns) q i h) }
 
 same-length : (S : ℕ) (initial : List ℕ) → badInitial S initial ≡ false → length initial ≡ S
 unfolding badInitial
@@ -63,6 +66,7 @@ judge-fine m room e =
     let p11 = passed 10 (anyBelow (λ (i : ℕ). ltb greatestKind (kindAt ns i)) (nodeCount ns)) _ (p10 .1) in
     let p12 = passed 11 (anyBelow (badOperand A ns) (nodeCount ns)) _ (p11 .1) in
     let p13 = passed 12 (ltb room (rowBegin S (nodeCount ns))) _ (p12 .1) in
+    let p14 = passed 21 (anyBelow (unnamed ns) A) _ (p13 .1) in
     let size = nodes-size ns (p10 .0) in
     record {
       table = skipped 1 _ _ (p1 .0) ∙ skipped 6 _ _ (p6 .0) ∙ skipped 7 _ _ (p7 .0) ∙ skipped 8 _ _ (p8 .0) ∙ skipped 9 _ _ (p9 .0) ∙ none-refused;
@@ -72,9 +76,10 @@ judge-fine m room e =
       starts = some-initial S initial (p5 .0);
       some = size .0;
       few = size .1;
-      nodes = record { triples = size .2; atoms = λ i h. atom-fits A ns i (any-none (badOperand A ns) (nodeCount ns) (p12 .0) i h) };
+      nodes = nodes-fit A ns (p10 .0) (p12 .0);
       operands = any-none (badOperand A ns) (nodeCount ns) (p12 .0);
       space = ltb-false room (rowBegin S (nodeCount ns)) (p13 .0);
+      named = any-none (unnamed ns) A (p14 .0);
     }
 
 -- the room comes into the refusals by the test 13 alone, so that a space with room for the rows refuses nothing that another one takes
@@ -88,6 +93,7 @@ by-room m short =
     ∷ cause 11 (anyBelow (λ (i : ℕ). ltb greatestKind (kindAt (m .nodes) i)) (nodeCount (m .nodes)))
     ∷ cause 12 (anyBelow (badOperand (m .atoms) (m .nodes)) (nodeCount (m .nodes)))
     ∷ cause 13 short
+    ∷ cause 22 (anyBelow (unnamed (m .nodes)) (m .atoms))
     ∷ [])))
 
 pub more-room : (m : Model) (room room′ : ℕ) → rowBegin (m .states) (nodeCount (m .nodes)) ≤ room → rowBegin (m .states) (nodeCount (m .nodes)) ≤ room′ → judgeRefusal m room ≡ judgeRefusal m room′

@@ -1,3 +1,4 @@
+mod Marks
 pub mod KindLaws
 pub mod Lowest
 pub mod Fine

@@ -14,11 +14,11 @@ use Rattle.model.specs.Inside.{TableNumber, lowestWith}
 use Rattle.model.specs.Refusals.{badNodes, judgeCauses, judgeRefusal, labelCauses, nodeCauses}
 use Rattle.model.specs.Model.{Model, asModel, nodeCount}
 use Rattle.kripke.specs.Answers.{transitionsRead}
-use Rattle.values.specs.Limits.{mostNodeNumbers, mostNodes}
+use Rattle.values.specs.Limits.{mostAtoms, mostNodeNumbers, mostNodes}
 use Rattle.kripke.specs.Refusals.{badCount, tableRefusal, transitionCauses}
 use Rattle.lists.specs.Causes.{Applies, Lowest, Rising, refusalOf}
 use Rattle.kripke.proofs.Refusals.{table-few, table-one, table-rest}
-use Rattle.lists.proofs.Causes.{given, refusal-above, refusal-append, refused, skipped}
+use Rattle.lists.proofs.Causes.{given, passed, refusal-above, refusal-append, refused, skipped}
 use Rattle.lists.proofs.Tests.{or-neither}
 use Rattle.kripke.specs.declared.graph.Transitions.{Transitions}
 
@@ -87,6 +87,10 @@ unfolding examined
 examined-of S A labels initial es ns room r n e q =
     let number : n ≡ judgeRefusal (asModel S A labels initial es ns) room = q ∙ lowest-read S A labels initial ns room es r e in
     λ i. record { refusal = number i; begins = e i .begins }
+
+-- labels that are not refused are of atoms within the limit
+pub atoms-few : (S A : ℕ) (labels initial : List ℕ) → refusalOf (labelCauses S A labels initial) ≡ 0 → A ≤ mostAtoms
+atoms-few S A labels initial e = ltb-false mostAtoms A (passed 1 (ltb mostAtoms A) _ e .0)
 
 -- a node list that is not refused has few nodes, three numbers each
 pub nodes-size : (ns : List ℕ) → badNodes ns ≡ false → (0 < nodeCount ns) × (nodeCount ns ≤ mostNodes) × (length ns % 3 ≡ 0)

@@ -5,7 +5,7 @@ use mathlib.Core.List.{List}
 use mathlib.Core.Bool.{cond, false}
 use lib.ListN.{length}
 use lib.Dec.{eqb}
-use Rattle.lists.specs.Entries.{at}
+use Rattle.lists.specs.Entries.{at, anyBelow}
 use Rattle.lists.specs.Causes.{refusalOf}
 use Rattle.values.specs.Limits.{mostStates, mostNodes}
 use Rattle.values.specs.Values.{top}
@@ -13,7 +13,7 @@ use Rattle.values.specs.Rows.{rowBegin}
 use Rattle.kripke.specs.Refusals.{tableRefusal}
 use Rattle.model.specs.Model.{Initial, Model, nodeCount, kindAt, leftAt}
 use Rattle.model.specs.Kinds.{ATOM, kindOf}
-use Rattle.model.specs.Refusals.{badOperand, labelCauses, nodeCauses}
+use Rattle.model.specs.Refusals.{badOperand, labelCauses, names, nodeCauses, unnamed}
 
 -- the number that the tables have is 1 where the state count is out of range
 abbrev pub TableNumber : ℕ → ℕ → Type 0
@@ -34,6 +34,10 @@ pub record NodesFit (A : ℕ) (ns : List ℕ) : Type 0 where
   pub triples : length ns % 3 ≡ 0
   pub atoms : (i : ℕ) → i < nodeCount ns → AtomFits A (kindAt ns i) (leftAt ns i)
 
+-- the marks after i nodes: 1 for an atom that one of them names, and otherwise 0
+pub record Marked (ns : List ℕ) (i : ℕ) (marks : List ℕ) : Type 0 where
+  pub each : (a : ℕ) → at marks a ≡ cond (anyBelow (names ns a) i) 1 0
+
 -- what a model has that is not refused, with a verdict space of so many bytes
 pub record Fine (m : Model) (room : ℕ) : Type 0 where
   pub table : tableRefusal (m .states) (m .transitions) ≡ 0
@@ -46,3 +50,4 @@ pub record Fine (m : Model) (room : ℕ) : Type 0 where
   pub nodes : NodesFit (m .atoms) (m .nodes)
   pub operands : (i : ℕ) → i < nodeCount (m .nodes) → badOperand (m .atoms) (m .nodes) i ≡ false
   pub space : rowBegin (m .states) (nodeCount (m .nodes)) ≤ room
+  pub named : (a : ℕ) → a < m .atoms → unnamed (m .nodes) a ≡ false

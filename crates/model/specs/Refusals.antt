@@ -1,7 +1,7 @@
--- When a model is refused: the causes 1 to 13.
+-- When a model is refused: the causes 1 to 13, and 22.
 use Prim.Native.Nat.{ℕ, _*_, _%_}
 use mathlib.Core.List.{List, [], _∷_, _++_}
-use mathlib.Core.Bool.{Bool, not, _||_}
+use mathlib.Core.Bool.{Bool, not, _||_, _&&_}
 use lib.ListN.{length}
 use lib.Dec.{eqb, ltb}
 use Rattle.lists.specs.Entries.{at, anyBelow}
@@ -25,6 +25,14 @@ badNodes ns = eqb (length ns) 0 || (ltb mostNodeNumbers (length ns) || not (eqb 
 abbrev pub badOperand : ℕ → List ℕ → ℕ → Bool
 badOperand A ns i = not (ltb (leftAt ns i) (bound (uses (kindOf (kindAt ns i)) .0) A i)) || not (ltb (rightAt ns i) (bound (uses (kindOf (kindAt ns i)) .1) A i))
 
+-- node i names atom a: it is of kind 1, an atom, and its left number is a
+unfoldable pub names : List ℕ → ℕ → ℕ → Bool
+names ns a i = eqb (kindAt ns i) 1 && eqb (leftAt ns i) a
+
+-- no node names atom a
+abbrev pub unnamed : List ℕ → ℕ → Bool
+unnamed ns a = not (anyBelow (names ns a) (nodeCount ns))
+
 -- 2 to 5
 abbrev pub labelCauses : ℕ → ℕ → List ℕ → List ℕ → List Cause
 labelCauses S A labels initial =
@@ -34,13 +42,14 @@ labelCauses S A labels initial =
     ∷ cause 5 (badInitial S initial)
     ∷ []
 
--- 10 to 13, for a verdict space of so many bytes
+-- 10 to 13 and 22, for a verdict space of so many bytes
 abbrev pub nodeCauses : ℕ → ℕ → List ℕ → ℕ → List Cause
 nodeCauses S A ns room =
     cause 10 (badNodes ns)
     ∷ cause 11 (anyBelow (λ (i : ℕ). ltb greatestKind (kindAt ns i)) (nodeCount ns))
     ∷ cause 12 (anyBelow (badOperand A ns) (nodeCount ns))
     ∷ cause 13 (ltb room (rowBegin S (nodeCount ns)))
+    ∷ cause 22 (anyBelow (unnamed ns) A)
     ∷ []
 
 -- all of them, in the order of their numbers

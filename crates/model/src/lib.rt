@@ -1,6 +1,8 @@
 // A whole model: when it is refused, and where each state's transitions begin. What a model is stands in specs/.
 //
 //   refusals   the causes 2 to 5 and 10 to 13, and the lowest number of all
+//   naming     the cause 22: which atoms the nodes name
+mod naming;
 mod refusals;
 
 use values::limits::MOST_STATES;
@@ -8,7 +10,7 @@ ghost use mathlib.Core.Path.{_≡_};
 ghost use Rattle.model.specs.Model.{asModel};
 ghost use Rattle.model.specs.Answers.{examined};
 
-// The lowest number of 1 to 13 that applies, or 0, and where each state's transitions begin, as kripke's reader has it.
+// The lowest number of 1 to 13 and 22 that applies, or 0, and where each state's transitions begin, as kripke's reader has it.
 pub struct Examined {
     pub refusal: u8,
     pub begins: [u16; MOST_STATES + 1],

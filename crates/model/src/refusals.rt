@@ -1,4 +1,5 @@
 // When a model is refused.
+use crate::naming::some_unnamed;
 use values::limits::GREATEST_KIND;
 use values::limits::MOST_ATOMS;
 use values::limits::MOST_NODE_NUMBERS;
@@ -8,7 +9,7 @@ ghost use lib.ListN.{length};
 ghost use lib.Dec.{ltb, eqb};
 ghost use Rattle.lists.specs.Entries.{at, anyBelow};
 ghost use Rattle.lists.specs.Causes.{refusalOf};
-ghost use Rattle.values.specs.Limits.{mostStates, greatestKind};
+ghost use Rattle.values.specs.Limits.{mostAtoms, mostStates, greatestKind};
 ghost use Rattle.model.specs.Kinds.{kindOf, uses, bound};
 ghost use Rattle.model.specs.Model.{nodeCount, kindAt};
 ghost use Rattle.model.specs.Refusals as paper;
@@ -149,9 +150,9 @@ fn bad_nodes(nodes: &[u16]) -> bool
     over != 0
 }
 
-// 10 to 13, or 0.
+// 10 to 13 or 22, or 0.
 fn node_fault(states: usize, atoms: usize, nodes: &[u16], room: usize) -> u8
-    requires { ⌜ states ≤ mostStates ⌝ }
+    requires { ⌜ (states ≤ mostStates) × (atoms ≤ mostAtoms) ⌝ }
     ensures { λ r. ⌜ r ≡ refusalOf (paper.nodeCauses states atoms (now (nodes .entry)) room) ⌝ }
 {
     if bad_nodes(nodes) {
@@ -166,10 +167,13 @@ fn node_fault(states: usize, atoms: usize, nodes: &[u16], room: usize) -> u8
     if room < nodes.len() / 3 * values::rows::row_size(states) {
         return 13;
     }
+    if some_unnamed(atoms, nodes) {
+        return 22;
+    }
     0
 }
 
-// The lowest of 1 to 13 that applies, or 0, given the number that the tables of states and transitions have.
+// The lowest of 1 to 13 and 22 that applies, or 0, given the number that the tables of states and transitions have.
 pub(crate) fn lowest(
     table: u8,
     states: usize,

@@ -7,21 +7,17 @@ use mathlib.Core.Logic.{_⊎_, inl, inr, ⊎-elim}
 use native.Mathlib.Omega.{arith}
 use borrow.Author.Count.{below-more}
 use lib.ListN.{length, set, length-set, List·getD-eq-default}
-use lib.Seq.{getD-set-same, getD-set-other}
 use lib.Dec.{leb, ltb}
 use borrow.Author.Tests.{leb-false, leb-true, ltb-false, ltb-true}
 use Rattle.lists.specs.Entries.{at}
 use Rattle.lists.specs.Rows.{Filled}
+use Rattle.lists.proofs.Entries.{set-at-or-not}
 use Rattle.lists.proofs.Numbers.{lt-or-le}
 use Rattle.lists.proofs.Rows.{filled-at, filled-length}
 use Rattle.kripke.specs.Transitions.{Edge}
 use Rattle.paths.specs.Questions.{From, Reaches}
 use Rattle.paths.specs.Inside.{Down, Far, Layers, Rounded, Settled, Upto, atOnce}
-use Rattle.paths.proofs.Simple.{same-or-not, shorten}
-
--- what stands at s after a store at a
-set-at-or-not : (d : List ℕ) (a x s : ℕ) → a < length d → ((s ≡ a) × (at (set d a x) s ≡ x)) ⊎ ((s ≡ a → ⊥) × (at (set d a x) s ≡ at d s))
-set-at-or-not d a x s h = ⊎-elim (λ e. inl (e, rw e (getD-set-same d a x 0 h))) (λ n. inr (n, getD-set-other d a s x 0 n)) (same-or-not s a)
+use Rattle.paths.proofs.Simple.{shorten}
 
 module _ {es : List ℕ} {L R : ℕ → Type 0} where
   upto-wider : {k : ℕ} {d : List ℕ} → Upto es L R k k d → Upto es L R k (k + 1) d

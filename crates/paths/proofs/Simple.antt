@@ -3,14 +3,11 @@ use mathlib.Core.Path.{_≡_}
 use Prim.Native.Nat.{ℕ, zero, suc, _≤_, _<_}
 use mathlib.Core.List.{List, [], _∷_}
 use mathlib.Core.Logic.{_⊎_, inl, inr, ⊎-elim}
-use native.Mathlib.Decide.{ℕ-discrete}
 use native.Mathlib.Omega.{arith}
 use lib.ListN.{length}
 use Rattle.lists.specs.Entries.{All}
+use Rattle.lists.proofs.Numbers.{same-or-not}
 use Rattle.paths.specs.Questions.{From}
-
-pub same-or-not : (x y : ℕ) → (x ≡ y) ⊎ (x ≡ y → ⊥)
-same-or-not x y = elim (ℕ-discrete x y) [ yes e ↦ inl e | no n ↦ inr n ]
 
 -- x is no entry; no entry comes twice
 abbrev Out : ℕ → List ℕ → Type 0

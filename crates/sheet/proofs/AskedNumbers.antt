@@ -64,7 +64,7 @@ module _ (m : Model) (f : Formula) (room : ℕ) where
       let known = never (λ (i : ℕ). ltb greatestKind (kindAt (nodesOf f) i)) (nodeCount (nodesOf f)) (λ i l. kind-fits f i (omega (arith, count, l))) in
       ⊎-elim
       (λ (z : judgeRefusal asked room ≡ 0). ap spared z)
-      (λ (p : 1 ≤ judgeRefusal asked room). applies-among spared (judgeCauses asked room) (judgeRefusal asked room) (judge-lowest asked room .applies (λ z. omega arith)) (inl refl, (inl refl, (inr (tests .0), (inr (tests .1), (inl refl, (inl refl, (inl refl, (inl refl, (inl refl, (inl refl, (inr known, (inl refl, (inr fits, tt))))))))))))))
+      (λ (p : 1 ≤ judgeRefusal asked room). applies-among spared (judgeCauses asked room) (judgeRefusal asked room) (judge-lowest asked room .applies (λ z. omega arith)) (inl refl, (inl refl, (inr (tests .0), (inr (tests .1), (inl refl, (inl refl, (inl refl, (inl refl, (inl refl, (inl refl, (inr known, (inl refl, (inr fits, (inl refl, tt)))))))))))))))
       (eq-zero-or-pos (judgeRefusal asked room))
 
   judged-other : AtomsBelow (m .atoms) f → other (judgeRefusal asked room) ≡ true
@@ -73,7 +73,7 @@ module _ (m : Model) (f : Formula) (room : ℕ) where
       let fit = never (badOperand (m .atoms) (nodesOf f)) (nodeCount (nodesOf f)) (λ i l. operands-fit f (m .atoms) i b (omega (arith, count, l))) in
       ⊎-elim
       (λ (z : judgeRefusal asked room ≡ 0). ap other z)
-      (λ (p : 1 ≤ judgeRefusal asked room). applies-among other (judgeCauses asked room) (judgeRefusal asked room) (judge-lowest asked room .applies (λ z. omega arith)) (inl refl, (inl refl, (inl refl, (inl refl, (inl refl, (inl refl, (inl refl, (inl refl, (inl refl, (inl refl, (inl refl, (inr fit, (inl refl, tt))))))))))))))
+      (λ (p : 1 ≤ judgeRefusal asked room). applies-among other (judgeCauses asked room) (judgeRefusal asked room) (judge-lowest asked room .applies (λ z. omega arith)) (inl refl, (inl refl, (inl refl, (inl refl, (inl refl, (inl refl, (inl refl, (inl refl, (inl refl, (inl refl, (inl refl, (inr fit, (inl refl, (inl refl, tt)))))))))))))))
       (eq-zero-or-pos (judgeRefusal asked room))
 
 -- what reading a formula comes to: an accepted one, or a number of its own

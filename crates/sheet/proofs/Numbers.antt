@@ -50,7 +50,7 @@ judged-spared m room g h =
     let fits = le-ltb room (rowBegin (m .states) (nodeCount (m .nodes))) (omega (arith, space-within (m .states) (nodeCount (m .nodes)) (g .states .most) (g .nodes .count .most))) in
     ⊎-elim
     (λ (z : judgeRefusal m room ≡ 0). ap spared z)
-    (λ (p : 1 ≤ judgeRefusal m room). applies-among spared (judgeCauses m room) (judgeRefusal m room) (judge-lowest m room .applies (λ z. omega arith)) (inl refl, (inl refl, (inr (tests .0), (inr (tests .1), (inl refl, (inl refl, (inl refl, (inl refl, (inl refl, (inl refl, (inl refl, (inl refl, (inr fits, tt))))))))))))))
+    (λ (p : 1 ≤ judgeRefusal m room). applies-among spared (judgeCauses m room) (judgeRefusal m room) (judge-lowest m room .applies (λ z. omega arith)) (inl refl, (inl refl, (inr (tests .0), (inr (tests .1), (inl refl, (inl refl, (inl refl, (inl refl, (inl refl, (inl refl, (inl refl, (inl refl, (inr fits, (inl refl, tt)))))))))))))))
     (eq-zero-or-pos (judgeRefusal m room))
 
 by-outcome : (text : List ℕ) (o : Outcome) → textOutcome text ≡ o → (before after : List ℕ) (r : Sheet) → mostVerdicts ≤ length before → Judges o before after r → spared (r .number) ≡ true

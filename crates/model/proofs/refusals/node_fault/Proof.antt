@@ -8,6 +8,7 @@ use borrow.Author.Needs.{needs}
 use Rattle.model.specs.Model.{nodeCount}
 use Rattle.values.specs.Limits.{mostNodes}
 use Rattle.values.specs.Rows.{rowBegin}
+use Rattle.model.proofs.Fine.{nodes-fit}
 use Rattle.model.proofs.Lowest.{nodes-few}
 use Rattle.values.proofs.StoredRows.{row-size-within}
 use Rattle.lists.proofs.Causes.{none-refused, refused, skipped}
@@ -39,15 +40,24 @@ mul-if4 : tie.Need-mul-if4
 mul-if4 c =
     let x = c .before .before .before .before .before .before .before .before .args in
     let small : nodeCount (x .nodes .now) ≤ mostNodes = nodes-few (x .nodes .now) (sym (c .before .before .before .before .before .before .bad-nodes .ensures) ∙ c .before .before .before .before .before .if1 .left) in
-    omega (arith, c .row-size .ensures, mul-le-mul small (le-trans (le-of-eq (c .row-size .ensures)) (le-trans (row-size-within (x .states)) (c .before .before .before .before .before .before .before .before .pre))))
+    omega (arith, c .row-size .ensures, mul-le-mul small (le-trans (le-of-eq (c .row-size .ensures)) (le-trans (row-size-within (x .states)) (c .before .before .before .before .before .before .before .before .pre .0))))
 
 returns-4 : tie.Need-returns-4
 unfolding rowBegin
 returns-4 c = sym (skipped _ _ _ (sym (c .before .before .before .before .before .before .before .bad-nodes .ensures) ∙ c .before .before .before .before .before .before .if1 .left) ∙ skipped _ _ _ (sym (c .before .before .before .before .before .some-kind-above .ensures) ∙ c .before .before .before .before .if2 .left) ∙ skipped _ _ _ (sym (c .before .before .before .some-bad-operand .ensures) ∙ c .before .before .if3 .left) ∙ refused _ _ _ (lt-ltb _ _ (subst (λ (z : ℕ). c .before .before .before .before .before .before .before .before .before .args .room < nodeCount (c .before .before .before .before .before .before .before .before .before .args .nodes .now) * z) (c .before .row-size .ensures) (c .if4 .taken))))
 
+some-unnamed-requires : tie.Need-some-unnamed-requires
+some-unnamed-requires c κs =
+    let x = c .before .before .before .before .before .before .before .before .before .args in
+    (c .before .before .before .before .before .before .before .before .before .pre .1, nodes-fit (x .atoms) (x .nodes .now) (sym (c .before .before .before .before .before .before .before .bad-nodes .ensures) ∙ c .before .before .before .before .before .before .if1 .left) (sym (c .before .before .before .some-bad-operand .ensures) ∙ c .before .before .if3 .left))
+
 returns-5 : tie.Need-returns-5
 unfolding rowBegin
-returns-5 c = sym (skipped _ _ _ (sym (c .before .before .before .before .before .before .before .bad-nodes .ensures) ∙ c .before .before .before .before .before .before .if1 .left) ∙ skipped _ _ _ (sym (c .before .before .before .before .before .some-kind-above .ensures) ∙ c .before .before .before .before .if2 .left) ∙ skipped _ _ _ (sym (c .before .before .before .some-bad-operand .ensures) ∙ c .before .before .if3 .left) ∙ skipped _ _ _ (le-ltb _ _ (subst (λ (z : ℕ). nodeCount (c .before .before .before .before .before .before .before .before .before .args .nodes .now) * z ≤ c .before .before .before .before .before .before .before .before .before .args .room) (c .before .row-size .ensures) (c .if4 .left))) ∙ none-refused)
+returns-5 c = sym (skipped _ _ _ (sym (c .before .before .before .before .before .before .before .before .before .bad-nodes .ensures) ∙ c .before .before .before .before .before .before .before .before .if1 .left) ∙ skipped _ _ _ (sym (c .before .before .before .before .before .before .before .some-kind-above .ensures) ∙ c .before .before .before .before .before .before .if2 .left) ∙ skipped _ _ _ (sym (c .before .before .before .before .before .some-bad-operand .ensures) ∙ c .before .before .before .before .if3 .left) ∙ skipped _ _ _ (le-ltb _ _ (subst (λ (z : ℕ). nodeCount (c .before .before .before .before .before .before .before .before .before .before .before .args .nodes .now) * z ≤ c .before .before .before .before .before .before .before .before .before .before .before .args .room) (c .before .before .before .row-size .ensures) (c .before .before .if4 .left))) ∙ refused _ _ _ (sym (c .before .some-unnamed .ensures) ∙ c .if5 .taken))
+
+returns-6 : tie.Need-returns-6
+unfolding rowBegin
+returns-6 c = sym (skipped _ _ _ (sym (c .before .before .before .before .before .before .before .before .before .bad-nodes .ensures) ∙ c .before .before .before .before .before .before .before .before .if1 .left) ∙ skipped _ _ _ (sym (c .before .before .before .before .before .before .before .some-kind-above .ensures) ∙ c .before .before .before .before .before .before .if2 .left) ∙ skipped _ _ _ (sym (c .before .before .before .before .before .some-bad-operand .ensures) ∙ c .before .before .before .before .if3 .left) ∙ skipped _ _ _ (le-ltb _ _ (subst (λ (z : ℕ). nodeCount (c .before .before .before .before .before .before .before .before .before .before .before .args .nodes .now) * z ≤ c .before .before .before .before .before .before .before .before .before .before .before .args .room) (c .before .before .before .row-size .ensures) (c .before .before .if4 .left))) ∙ skipped _ _ _ (sym (c .before .some-unnamed .ensures) ∙ c .if5 .left) ∙ none-refused)
 
 pub node-fault-spec : {M : Type 1} → statement M
 node-fault-spec =
@@ -62,4 +72,6 @@ node-fault-spec =
     row-size-requires
     mul-if4
     returns-4
-    returns-5)
+    some-unnamed-requires
+    returns-5
+    returns-6)
