@@ -18,18 +18,22 @@ use crate::limits::{self, model_case};
 use crate::model::{text_of, Model};
 use crate::question::{Asking, Question};
 use crate::random::Random;
-use crate::{askings, breaks, formula, judge, misasked, models, question, reader, readings, spoiled};
+use crate::refusals::UNNAMED;
+use crate::{askings, breaks, formula, judge, misasked, models, naming, question, reader, readings, spoiled};
 
-/// A fresh case: of every four two are of the mixture above, one is about formulas, one about measurements.
+/// A fresh case: of every eight four are of the mixture above, two about formulas, one about measurements, and one
+/// about atoms that are named or not.
 pub fn mixed(seed: u64, number: usize) -> Vec<u8> {
-    match number % 4 {
-        2 => formula::mixture::case(Kinds::All, seed, number / 4),
-        3 => readings::mixture::case(seed, number / 4),
-        place => case(Kinds::All, seed, number / 4 * 2 + place),
+    let turn = number / 8;
+    match number % 8 {
+        place @ 0..=3 => case(Kinds::All, seed, turn * 4 + place),
+        place @ 4..=5 => formula::mixture::case(Kinds::All, seed, turn * 2 + place - 4),
+        6 => readings::mixture::case(seed, turn),
+        _ => naming::mixture::case(seed, turn),
     }
 }
 
-/// Case number `number` of a seed; an accepted model that leaves an atom unnamed is drawn again.
+/// Case number `number` of a seed; a model that is refused for an unnamed atom alone is drawn again.
 pub fn case(kinds: Kinds, seed: u64, number: usize) -> Vec<u8> {
     drawn(Random::of_case(seed, number as u64).drawing(kinds), number)
 }
@@ -38,18 +42,18 @@ pub fn case(kinds: Kinds, seed: u64, number: usize) -> Vec<u8> {
 pub fn drawn(mut random: Random, number: usize) -> Vec<u8> {
     loop {
         let case = draw(&mut random, number);
-        if !accepted_with_unnamed_atom(random.kinds, &case) {
+        if !refused_for_unnamed_atom(random.kinds, &case) {
             return case;
         }
     }
 }
 
-/// A model with a kind beyond those that are drawn counts as refused, as it was when it was stored.
-fn accepted_with_unnamed_atom(kinds: Kinds, case: &[u8]) -> bool {
+/// A model with a kind beyond those that are drawn counts as refused for that, as it was when it was stored.
+fn refused_for_unnamed_atom(kinds: Kinds, case: &[u8]) -> bool {
     let Some(Ok(model)) = case.strip_prefix(b"M\n").map(reader::read) else {
         return false;
     };
-    kinds.hold(&model.nodes) && !model.names_every_atom() && judge::judge_whole(&model).is_ok()
+    kinds.hold(&model.nodes) && judge::judge_whole(&model).err() == Some(UNNAMED)
 }
 
 fn draw(random: &mut Random, number: usize) -> Vec<u8> {

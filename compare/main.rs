@@ -16,6 +16,7 @@ mod limits;
 mod misasked;
 mod model;
 mod models;
+mod naming;
 mod paths;
 mod question;
 mod random;
@@ -34,10 +35,11 @@ use std::process::ExitCode;
 
 const USAGE: &str = "compare make COUNT SEED INPUT_FILE ANSWER_FILE
     writes COUNT fresh cases and their answers
-compare store COUNT FORMULAS READINGS KINDS SEED INPUT_FILE ANSWER_FILE [MODEL_FILE ..]
+compare store COUNT FORMULAS READINGS KINDS NAMING SEED INPUT_FILE ANSWER_FILE [MODEL_FILE ..]
     writes the model files' cases, COUNT of models and paths, the listed ones of formulas, FORMULAS random ones,
     the listed ones of measurements, READINGS random ones, all of the kinds up to 6; then the model files' with
-    a kind above 6, the listed ones of such kinds, KINDS random ones over all kinds
+    a kind above 6, the listed ones of such kinds, KINDS random ones over all kinds; then the listed ones of atoms
+    that are named or not, NAMING random ones
 compare explain INPUT_FILE N
     prints case N (from 0) and its expected answer
 compare differ INPUT_FILE EXPECTED GOT
@@ -54,8 +56,8 @@ fn main() -> ExitCode {
     let words: Vec<&str> = words.iter().map(String::as_str).collect();
     let done = match words[..] {
         ["make", count, seed, input, answers] => make(count, seed, input, answers),
-        ["store", count, formulas, readings, kinds, seed, input, answers, ref models @ ..] => {
-            store([count, formulas, readings, kinds], seed, [input, answers], models)
+        ["store", count, formulas, readings, kinds, naming, seed, input, answers, ref models @ ..] => {
+            store([count, formulas, readings, kinds, naming], seed, [input, answers], models)
         }
         ["explain", input, number] => explain(input, number),
         ["differ", input, expected, got] => differ(input, expected, got),
@@ -88,10 +90,10 @@ fn make(count: &str, seed: &str, input: &str, answers: &str) -> Result<ExitCode,
 }
 
 /// What is added comes behind what was there, so that no stored case moves.
-fn store(counts: [&str; 4], seed: &str, files: [&str; 2], models: &[&str]) -> Result<ExitCode, String> {
+fn store(counts: [&str; 5], seed: &str, files: [&str; 2], models: &[&str]) -> Result<ExitCode, String> {
     let (count, formulas): (usize, usize) = (number(counts[0])?, number(counts[1])?);
     let (readings, kinds): (usize, usize) = (number(counts[2])?, number(counts[3])?);
-    let seed: u64 = number(seed)?;
+    let (naming, seed): (usize, u64) = (number(counts[4])?, number(seed)?);
     let models = models.iter().map(|file| load_model(file)).collect::<Result<Vec<_>, String>>()?;
     let (mut cases, since): (Vec<_>, Vec<_>) = models.into_iter().partition(|case| of_first_kinds(case));
     cases.extend((0..count).map(|place| generate::case(Kinds::First, seed, place)));
@@ -103,6 +105,8 @@ fn store(counts: [&str; 4], seed: &str, files: [&str; 2], models: &[&str]) -> Re
     cases.extend(wider::listed::cases());
     cases.extend(formula::wider::cases());
     cases.extend((0..kinds).map(|place| wider::mixture::case(seed, place)));
+    cases.extend(naming::listed::cases());
+    cases.extend((0..naming).map(|place| naming::mixture::case(seed, place)));
     write_cases(&cases, files[0], files[1])
 }
 

@@ -35,9 +35,9 @@ impl Model {
         text_of(&self.lines())
     }
 
-    /// Whether some node names each atom; stored models keep to this that were accepted when they were drawn.
+    /// Whether some node names each atom.
     pub fn names_every_atom(&self) -> bool {
-        let named = |atom: usize| self.nodes.chunks(3).any(|n| n[0] == 1 && n[1] as usize == atom);
+        let named = |atom: usize| self.nodes.chunks_exact(3).any(|n| n[0] == 1 && n[1] as usize == atom);
         (0..self.atoms).all(named)
     }
 }

@@ -3,6 +3,9 @@
 use crate::model::Model;
 use crate::question::Question;
 
+/// An atom that no node names: since request 6, after all other refusals of judging.
+pub const UNNAMED: u16 = 22;
+
 type Test<'a> = (u16, Box<dyn Fn() -> bool + 'a>);
 
 fn lowest(tests: Vec<Test>) -> Option<u16> {
@@ -22,7 +25,7 @@ fn table_tests<'a>(states: usize, transitions: &'a [u16]) -> Vec<Test<'a>> {
     ]
 }
 
-/// Refusals 1 to 13 of judging with a verdict space of `space` bytes.
+/// Refusals 1 to 13 and 22 of judging with a verdict space of `space` bytes.
 pub fn of_judging(model: &Model, space: usize) -> Option<u16> {
     let (states, atoms) = (model.states, model.atoms);
     let (labels, initial, nodes) = (&model.labels, &model.initial, &model.nodes);
@@ -41,6 +44,7 @@ pub fn of_judging(model: &Model, space: usize) -> Option<u16> {
         Box::new(move || nodes.chunks_exact(3).enumerate().any(|(place, node)| bad_operands(place, node, atoms))),
     ));
     tests.push((13, Box::new(move || space < count / 3 * states)));
+    tests.push((UNNAMED, Box::new(move || !model.names_every_atom())));
     lowest(tests)
 }
 

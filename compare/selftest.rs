@@ -8,7 +8,7 @@ use crate::model::{letters, Model};
 use crate::models;
 use crate::question::{self, Asking, Question};
 use crate::random::Random;
-use crate::{formula, frames, generate, reader, readings, wider};
+use crate::{formula, frames, generate, naming, reader, readings, wider};
 use std::process::ExitCode;
 
 pub fn run() -> ExitCode {
@@ -26,6 +26,7 @@ pub fn run() -> ExitCode {
     formula::selftest();
     readings::selftest();
     wider::selftest();
+    naming::selftest();
     println!("selftest ok");
     ExitCode::SUCCESS
 }

@@ -8,10 +8,11 @@ use crate::judge;
 use crate::kinds::Kinds;
 use crate::model::{text_of, Model};
 use crate::random::Random;
+use crate::refusals::UNNAMED;
 use crate::{breaks, models, reader, spoiled};
 
 /// A small model, few nodes of its own, and a formula that names all its atoms.
-fn draw(random: &mut Random) -> (Model, Formula) {
+pub fn draw(random: &mut Random) -> (Model, Formula) {
     let states = if random.chance(90) { random.between(1, 7) } else { random.between(8, 40) };
     let atoms = if random.chance(90) { random.below(5) } else { random.between(5, 12) };
     let nodes = atoms.max(1) + random.below(2);
@@ -106,8 +107,8 @@ pub fn several(random: &mut Random) -> Vec<u8> {
     judging_case(&formula, &text)
 }
 
-/// Whether a case is accepted though the formula leaves an atom of the model unnamed; a formula with a kind beyond
-/// those that are drawn counts as refused, as it was when it was stored.
+/// Whether a case is refused for an atom of the model that the formula leaves unnamed, and for nothing else; a formula
+/// with a kind beyond those that are drawn counts as refused for that, as it was when it was stored.
 pub fn leaves_atom_unnamed(kinds: Kinds, case: &[u8]) -> bool {
     let mut lines = case.splitn(3, |&byte| byte == b'\n').skip(1);
     let (Some(formula), Some(text)) = (lines.next(), lines.next()) else {
@@ -117,5 +118,5 @@ pub fn leaves_atom_unnamed(kinds: Kinds, case: &[u8]) -> bool {
         return false;
     };
     model.nodes = formula.nodes();
-    kinds.hold(&model.nodes) && !model.names_every_atom() && judge::judge_whole(&model).is_ok()
+    kinds.hold(&model.nodes) && judge::judge_whole(&model).err() == Some(UNNAMED)
 }

@@ -18,7 +18,7 @@ use crate::random::Random;
 /// Far from every case number of the other mixture, so that no two cases share their random numbers.
 const BEGIN: u64 = 1 << 32;
 
-/// Case number `number` of a seed; an accepted model with an atom that the formula leaves unnamed is drawn again.
+/// Case number `number` of a seed; a model that is refused for an atom that the formula leaves unnamed is drawn again.
 pub fn case(kinds: Kinds, seed: u64, number: usize) -> Vec<u8> {
     drawn(Random::of_case(seed, BEGIN + number as u64).drawing(kinds), number)
 }

@@ -88,4 +88,14 @@ impl Formula {
     pub fn nodes(&self) -> Vec<u16> {
         self.nodes_from(0)
     }
+
+    /// The same formula with its atoms numbered otherwise.
+    pub fn renamed(&self, moved: &impl Fn(u16) -> u16) -> Formula {
+        match self {
+            True => True,
+            Atom(number) => Atom(moved(*number)),
+            Prefixed(operator, operand) => operand.renamed(moved).prefixed(*operator),
+            Joined(operator, left, right) => left.renamed(moved).joined(*operator, right.renamed(moved)),
+        }
+    }
 }
