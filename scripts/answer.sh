@@ -8,15 +8,32 @@ start() { # ARGUMENTS
     exec env -i ${emulator:+"$emulator"} "$tools/lib/ld-linux-x86-64.so.2" --library-path "$tools/lib" "$root/target/bin/$name" "$@"
 }
 
+# What awk does to a line of the answer before it passes on.
+telling=''
+
+# With --only-named the labels of atoms that the formula doesn't name are left out before anything is judged: the program is given the text
+# without them and the formula with its atoms numbered as they are then, and in the answer they have their own numbers again. What is refused
+# anyway stays as it is.
+only_named() {
+    look -f "$root/scripts/named.awk" >"$own/named" 2>"$own/said"
+    case $? in 0) ;; 1) return ;; *) no_room ;; esac
+    { [ "$(wc -l <"$own/named")" = "$(wc -l <"$model")" ] && [ "$(wc -l <"$own/kept")" = 2 ]; } || no_room
+    { IFS= read -r question && IFS= read -r atoms; } <"$own/kept"
+    judged=$own/named
+    telling="$(cat "$root/scripts/formula.awk")
+        BEGIN { n = split(\"$atoms\", own, \" \"); for (i = 1; i <= n; i++) to[i - 1] = own[i] }
+        /^part=/ { \$0 = renumbered(\$0, to) }"
+}
+
 # The answer passes on as it comes, through an awk that keeps something of it in $own/lines. Nothing counts as answered that wasn't written.
 pass() { # AWK-RULES ARGUMENTS
     rules=$1
     shift
     mkfifo "$own/raw" "$own/passed" || no_room
     starting=yes
-    start "$@" <"$model" >"$own/raw" &
+    start "$@" <"$judged" >"$own/raw" &
     program=$!
-    kept=$own/lines awk "{ print } $rules" <"$own/raw" >"$own/passed" &
+    kept=$own/lines awk "$telling { print } $rules" <"$own/raw" >"$own/passed" &
     passer=$!
     cat <"$own/passed" &
     writer=$!
@@ -50,6 +67,7 @@ meaning() { # NUMBER
     case ${formula+formula}:$1 in
         formula:10) words="no node, or more than the limit, in the model's text or in the formula" ;;
         formula:12) words="an atom that the model hasn't" ;;
+        formula:22) words="an atom of the model that the formula doesn't name" ;;
         *)
             words=$(rule Refusals "$1")
             words=${words%%; printing:*}
@@ -72,12 +90,16 @@ find_cause() { # NUMBER [AWK-SETTINGS]
     number=$1
     shift
     # nothing is said of a formula that there is no room for
-    [ -z "${formula+yes}" ] || { printf '%s\n' "$formula" >"$own/formula"; } 2>/dev/null || return 0
+    look -v number="$number" "$@" -f "$root/scripts/cause.awk" || return 0
+}
+
+# The model's text as an awk looks at it that knows the limits and the formula.
+look() { # AWK-SETTINGS-AND-FILE
+    [ -z "${formula+yes}" ] || { printf '%s\n' "$formula" >"$own/formula"; } 2>/dev/null || return 2
     ended=$(tail -c 1 <"$model" | wc -l)
     size=$(wc -c <"$model")
     [ "$size" -lt "$most_kept" ] || size="$size or more"
-    tr '\000' '?' <"$model" | asked=$own/formula awk -v number="$number" -v ended="$ended" -v size="$size" -v by_formula="${formula+yes}" \
+    tr '\000' '?' <"$model" | asked=$own/formula kept=$own/kept awk -v ended="$ended" -v size="$size" -v by_formula="${formula+yes}" \
         -v most_states="$(most states)" -v most_atoms="$(most atoms)" -v most_transitions="$(most transitions)" -v most_nodes="$(most nodes)" \
-        -v most_text="$(most text)" -v most_formula="$(most formula)" -v most_kind="$(most kind)" "$@" \
-        -f "$root/scripts/formula.awk" -f "$root/scripts/cause.awk"
+        -v most_text="$(most text)" -v most_formula="$(most formula)" -v most_kind="$(most kind)" "$@" -f "$root/scripts/formula.awk"
 }

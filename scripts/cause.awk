@@ -1,5 +1,5 @@
 # What a refusal's number was in this model: reads the model's text as far as its form holds and prints one line, or none where nothing is
-# found. It serves the messages of the scripts alone; what is judged or refused, the programs say. formula.awk is read before it.
+# found. It serves the messages of the scripts alone; what is judged or refused, the programs say. formula.awk is read beside it.
 # Set before: number, ended (1 where the text ends in a line feed), size (bytes), most_.. (the limits); node or start for a path question;
 # by_formula where a formula was asked, which stands in the file that the environment has as `asked`.
 function is_number(s) { return s ~ /^(0|[1-9][0-9]*)$/ && length(s) <= 5 && s + 0 <= 65535 }
@@ -53,6 +53,7 @@ function meet_node(value, part, this, i, use) {
     split(value, part, ",")
     this = "line " NR ", node=" value " (node " nodes "): "
     kind[nodes] = part[1] + 0
+    if (kind[nodes] == 1) in_node[part[2] + 0] = 1
     if (number == 11 && kind[nodes] > most_kind + 0) found(this "kinds are 0 to " most_kind)
     if (number == 12 && !by_formula && kind[nodes] in uses)
         for (i = 1; i <= 2; i++) {
@@ -90,6 +91,8 @@ END {
     if (by_formula && number == 10) found("a formula has at most " most_nodes " nodes, here " nodes_in(asked()))
     if (by_formula && number == 12) found(atom_beyond(asked(), count["atoms"]))
     if (by_formula && number == 20) found(fault_in(asked()))
+    if (by_formula && number == 22) found(atoms_lost(asked(), count["atoms"]))
+    if (!by_formula && number == 22) for (a = 0; a < count["atoms"]; a++) if (!(a in in_node)) found("no node names atom " a "; " below(count["atoms"], "atoms"))
     if (number == "node") {
         for (i = 0; i < nodes; i++) if (kind[i] == 5 || kind[i] == 10) listed = listed (listed == "" ? "" : ", ") i
         if (node + 0 >= nodes) found(below(nodes, "nodes") ", here " node)

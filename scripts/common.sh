@@ -88,7 +88,7 @@ help() {
 make_scratch() {
     scratch=$(mktemp -d 2>/dev/null) || { scratch='' && die 3 "no temporary folder can be made in ${TMPDIR:-/tmp}"; }
     whole=$(cd -- "$scratch" && pwd -P) && scratch=$whole
-    own=$scratch/own model=$scratch/own/model
+    own=$scratch/own model=$scratch/own/model judged=$scratch/own/model
     { chmod 711 "$scratch" && mkdir -m 700 "$own" && true >"$model" && true >"$own/said"; } 2>/dev/null || no_room
 }
 

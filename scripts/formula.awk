@@ -94,6 +94,19 @@ function fault_in(text, byte) {
 # each node has one of these signs
 function nodes_in(text) { return gsub(/[Tp!&|>XFGU]/, "", text) }
 
+# the numbers of its atoms, as places of `set`
+function atoms_in(text, set) {
+    for (; match(text, /p[0-9]+/); text = substr(text, RSTART + RLENGTH)) set[substr(text, RSTART + 1, RLENGTH - 1) + 0] = 1
+}
+# the same with another number for each
+function renumbered(text, to, made) {
+    while (match(text, /p[0-9]+/)) {
+        made = made substr(text, 1, RSTART) to[substr(text, RSTART + 1, RLENGTH - 1) + 0]
+        text = substr(text, RSTART + RLENGTH)
+    }
+    return made text
+}
+
 function atoms_named(atoms) { return atoms > 1 ? atoms " atoms, p0 to p" atoms - 1 : atoms == 1 ? "one atom, p0" : "no atom" }
 function atom_beyond(text, atoms, digits) {
     while (match(text, /p[0-9]+/)) {
@@ -102,4 +115,9 @@ function atom_beyond(text, atoms, digits) {
         text = substr(text, RSTART + RLENGTH)
     }
     return ""
+}
+function atoms_lost(text, atoms, set, a, lost) {
+    atoms_in(text, set)
+    for (a = 0; a < atoms; a++) if (!(a in set)) lost = lost (lost == "" ? "p" : ", p") a
+    return lost == "" ? "" : "the formula doesn't name " lost ", and the model has " atoms_named(atoms) "; with --only-named it is judged without"
 }

@@ -54,6 +54,11 @@ try "refusal 12, an unused number" refused 12 "${graph/node=1,0,0/node=1,0,3}" "
 for kind in 3 5 6 7 8; do try "refusal 12, kind $kind" uses "$kind" "1 is no earlier node" "1 is no earlier node"; done
 for kind in 2 4 9 10 11 12 13; do try "refusal 12, kind $kind" uses "$kind" "1 is no earlier node" "the number 1 is unused here"; done
 try "the kinds that the words know are those of the rules" known_kinds
+wide='states=1\natoms=3\ninit=1\nlabel=TTT\nedges=1\nedge=0,0\nnodes=3\nnode=1,0,0\nnode=1,2,0\nnode=4,1,0\n'
+try "refusal 22, the only atom" refused 22 "${graph/node=1,0,0/node=0,0,0}" "no node names atom 0; of atoms there is only 0"
+try "refusal 22, an operand that has the atom's number" refused 22 "$wide" "no node names atom 1; atoms are 0 to 2"
+try "refusal 22, the first of two" refused 22 "${wide/node=1,0,0/node=1,2,0}" "no node names atom 0; atoms are 0 to 2"
+try "refusal 22, the last" refused 22 "${wide/node=1,2,0/node=1,1,0}" "no node names atom 2; atoms are 0 to 2"
 try "refusal 19, a wrong key" refused 19 'states=2\natom=1\n' "line 2 breaks the form; due there: atoms="
 try "refusal 19, a short line" refused 19 'states=3\natoms=1\ninit=10\n' "for each state (3), here 2"
 try "refusal 19, a carriage return" refused 19 'states=3\r\n' "line 1 ends in a carriage return"

@@ -3,7 +3,7 @@ use Prim.Native.Nat.{ℕ, _+_, _-_, _<_, _≤_}
 use mathlib.Core.Path.{_≡_, refl, sym, subst}
 use mathlib.Core.List.{List}
 use mathlib.Core.Bool.{Bool, false, not, _||_}
-use mathlib.Core.Logic.{⊎-elim}
+use mathlib.Core.Logic.{inl, inr, ⊎-elim}
 use native.Mathlib.Omega.{arith}
 use lib.ListN.{length}
 use lib.Dec.{ltb}
@@ -13,7 +13,7 @@ use Rattle.values.specs.Limits.{greatestKind}
 use Rattle.model.specs.Model.{kindAt}
 use Rattle.model.specs.Kinds.{Use, unused, anAtom, aNode, kindOf, uses, bound}
 use Rattle.model.specs.Refusals.{badOperand}
-use Rattle.formula.specs.Tree.{Prefix, Pair, Formula, TRUE, ATOM, one, two, size, AtomsBelow}
+use Rattle.formula.specs.Tree.{Prefix, Pair, Formula, TRUE, ATOM, one, two, size, AtomsBelow, Names}
 use Rattle.formula.specs.Text.{textOf}
 use Rattle.formula.specs.Nodes.{prefixKind, pairKind, nodesOf}
 use Rattle.formula.specs.Answers.{Accepted, YieldsPart}
@@ -29,30 +29,31 @@ pub record PartEnds (nodes : List ℕ) (j : ℕ) (f : Formula) : Type 0 where
   pub first : ℕ
   pub stands : Stands nodes j first part
   pub below : (n : ℕ) → AtomsBelow n f → AtomsBelow n part
+  pub names : (a : ℕ) → Names part a → Names f a
   pub shorter : length (textOf part) ≤ length (textOf f)
   pub smaller : size part ≤ size f
 
 whole : (nodes : List ℕ) (j k first : ℕ) (f : Formula) → j ≡ k → Stands nodes k first f → PartEnds nodes j f
-whole nodes j k first f e s = record { part = f; first = first; stands = subst (λ (x : ℕ). Stands nodes x first f) (sym e) s; below = λ n h. h; shorter = omega arith; smaller = omega arith }
+whole nodes j k first f e s = record { part = f; first = first; stands = subst (λ (x : ℕ). Stands nodes x first f) (sym e) s; below = λ n h. h; names = λ a h. h; shorter = omega arith; smaller = omega arith }
 
-within : (nodes : List ℕ) (j : ℕ) (f g : Formula) → ((n : ℕ) → AtomsBelow n f → AtomsBelow n g) → length (textOf g) ≤ length (textOf f) → size g ≤ size f → PartEnds nodes j g → PartEnds nodes j f
-within nodes j f g b l z p = record { part = p .part; first = p .first; stands = p .stands; below = λ n h. p .below n (b n h); shorter = omega (arith, l, p .shorter); smaller = omega (arith, z, p .smaller) }
+within : (nodes : List ℕ) (j : ℕ) (f g : Formula) → ((n : ℕ) → AtomsBelow n f → AtomsBelow n g) → ((a : ℕ) → Names g a → Names f a) → length (textOf g) ≤ length (textOf f) → size g ≤ size f → PartEnds nodes j g → PartEnds nodes j f
+within nodes j f g b m l z p = record { part = p .part; first = p .first; stands = p .stands; below = λ n h. p .below n (b n h); names = λ a h. m a (p .names a h); shorter = omega (arith, l, p .shorter); smaller = omega (arith, z, p .smaller) }
 
 each : (nodes : List ℕ) (f : Formula) (k first : ℕ) → Stands nodes k first f → (j : ℕ) → first ≤ j → j ≤ k → PartEnds nodes j f
-unfolding Stands size AtomsBelow
+unfolding Stands size AtomsBelow Names
 each nodes TRUE k first s j a b = whole nodes j k first TRUE (omega (arith, s .1)) s
 each nodes (ATOM n) k first s j a b = whole nodes j k first (ATOM n) (omega (arith, s .1)) s
 each nodes (one p f) k first s j a b =
     ⊎-elim
     (λ (e : j ≡ k). whole nodes j k first (one p f) e s)
-    (λ (l : j < k). within nodes j (one p f) f (λ n h. h) (omega (arith, length-prefixed p f)) (omega arith) (each nodes f (k - 1) first (s .1 .1) j a (omega arith)))
+    (λ (l : j < k). within nodes j (one p f) f (λ n h. h) (λ n h. h) (omega (arith, length-prefixed p f)) (omega arith) (each nodes f (k - 1) first (s .1 .1) j a (omega arith)))
     (last-or-before (omega arith))
 each nodes (two q f g) k first s j a b =
     ⊎-elim
     (λ (e : j ≡ k). whole nodes j k first (two q f g) e s)
     (λ (l : j < k). ⊎-elim
-    (λ (h : j < s .1 .0 + 1). within nodes j (two q f g) f (λ n w. w .0) (omega (arith, length-joined q f g)) (omega arith) (each nodes f (s .1 .0) first (s .1 .1 .1 .0) j a (omega arith)))
-    (λ (h : s .1 .0 + 1 ≤ j). within nodes j (two q f g) g (λ n w. w .1) (omega (arith, length-joined q f g)) (omega arith) (each nodes g (k - 1) (s .1 .0 + 1) (s .1 .1 .1 .1) j h (omega arith)))
+    (λ (h : j < s .1 .0 + 1). within nodes j (two q f g) f (λ n w. w .0) (λ n w. inl w) (omega (arith, length-joined q f g)) (omega arith) (each nodes f (s .1 .0) first (s .1 .1 .1 .0) j a (omega arith)))
+    (λ (h : s .1 .0 + 1 ≤ j). within nodes j (two q f g) g (λ n w. w .1) (λ n w. inr w) (omega (arith, length-joined q f g)) (omega arith) (each nodes g (k - 1) (s .1 .0 + 1) (s .1 .1 .1 .1) j h (omega arith)))
     (lt-or-le j (s .1 .0 + 1)))
     (last-or-before (omega arith))
 

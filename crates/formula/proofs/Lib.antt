@@ -22,3 +22,4 @@ pub mod Writing
 pub mod Joining
 pub mod Accepting
 pub mod EachPart
+pub mod NamedAtoms

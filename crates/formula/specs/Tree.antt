@@ -1,5 +1,7 @@
--- A formula as a tree, and when its atoms are ones that a model may have.
+-- A formula as a tree, which atoms it names, and when they are ones that a model may have.
+use mathlib.Core.Path.{_≡_}
 use Prim.Native.Nat.{ℕ, _+_, _<_}
+use mathlib.Core.Logic.{_⊎_}
 use Rattle.values.specs.Limits.{mostAtoms}
 
 -- what stands before a formula: not, or next (X), at some time (F), always (G), each on some path (E) or on every path (A)
@@ -29,6 +31,13 @@ AtomsBelow n TRUE = Unit {0}
 AtomsBelow n (ATOM a) = a < n
 AtomsBelow n (one p f) = AtomsBelow n f
 AtomsBelow n (two q f g) = AtomsBelow n f × AtomsBelow n g
+
+-- it names atom a
+unfoldable pub Names : Formula → ℕ → Type 0
+Names TRUE a = ⊥
+Names (ATOM b) a = b ≡ a
+Names (one p f) a = Names f a
+Names (two q f g) a = Names f a ⊎ Names g a
 
 -- below the most, as the grammar has it
 abbrev pub Named : Formula → Type 0

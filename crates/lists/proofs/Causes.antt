@@ -73,6 +73,12 @@ applies-among P [] n a h = absurd a
 applies-among P (c ∷ cs) n (inl a) h = ⊎-elim (λ (p : P (c .number) ≡ true). ap P (sym (a .0)) ∙ p) (λ (q : c .holds ≡ false). absurd (true≢false (sym (a .1) ∙ q))) (h .0)
 applies-among P (c ∷ cs) n (inr a) h = applies-among P cs n a (h .1)
 
+-- what the cause of a number that applies shows
+pub applies-shows : {P : Type 0} (cs : List Cause) (n : ℕ) → Applies cs n → All (λ (c : Cause). c .number ≡ n → c .holds ≡ true → P) cs → P
+applies-shows [] n a h = absurd a
+applies-shows (c ∷ cs) n (inl a) h = h .0 (a .0) (a .1)
+applies-shows (c ∷ cs) n (inr a) h = applies-shows cs n a (h .1)
+
 -- a table in two parts: the first part's number, or the second's where the first gives none
 pub refusal-append : (m : ℕ) (cs ds : List Cause) → Rising m cs → refusalOf (cs ++ ds) ≡ cond (eqb (refusalOf cs) 0) (refusalOf ds) (refusalOf cs)
 unfolding refusalOf

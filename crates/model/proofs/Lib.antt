@@ -1,3 +1,4 @@
+pub mod Named
 mod Marks
 pub mod KindLaws
 pub mod Lowest

@@ -1,24 +1,27 @@
 -- The lowest number that applies to judging: what the tables have, put in its place among the others.
-use mathlib.Core.Path.{_≡_, refl, sym, ap, _∙_}
+use mathlib.Core.Path.{_≡_, refl, sym, ap, _∙_, subst}
 use Prim.Native.Nat.{ℕ, _%_, _≤_, _<_}
 use mathlib.Core.List.{List, _++_}
 use mathlib.Core.Bool.{Bool, true, false, cond, not, _||_}
-use mathlib.Core.Logic.{_⊎_, inl, inr}
+use mathlib.Core.Logic.{_⊎_, inl, inr, ⊎-elim}
 use native.Mathlib.Omega.{arith}
+use native.Mathlib.Nat.{eq-zero-or-pos}
 use lib.ListN.{length}
 use lib.Dec.{eqb, ltb}
 use borrow.Author.Tests.{eq-eqb, ne-eqb, ltb-false, eqb-true, eqb-false, not-false}
 use Rattle.model.specs.declared.Examined.{Examined}
 use Rattle.model.specs.Answers.{examined}
 use Rattle.model.specs.Inside.{TableNumber, lowestWith}
-use Rattle.model.specs.Refusals.{badNodes, judgeCauses, judgeRefusal, labelCauses, nodeCauses}
+use Rattle.model.specs.Refusals.{badNodes, judgeCauses, judgeRefusal, labelCauses, nodeCauses, unnamed}
 use Rattle.model.specs.Model.{Model, asModel, nodeCount}
 use Rattle.kripke.specs.Answers.{transitionsRead}
 use Rattle.values.specs.Limits.{mostAtoms, mostNodeNumbers, mostNodes}
 use Rattle.kripke.specs.Refusals.{badCount, tableRefusal, transitionCauses}
-use Rattle.lists.specs.Causes.{Applies, Lowest, Rising, refusalOf}
+use Rattle.lists.specs.Causes.{Applies, Cause, Lowest, Rising, refusalOf}
+use Rattle.lists.specs.Entries.{All}
 use Rattle.kripke.proofs.Refusals.{table-few, table-one, table-rest}
-use Rattle.lists.proofs.Causes.{given, passed, refusal-above, refusal-append, refused, skipped}
+use Rattle.lists.proofs.Causes.{applies-among, applies-shows, given, passed, refusal-above, refusal-append, refused, skipped}
+use Rattle.lists.proofs.Search.{any-where}
 use Rattle.lists.proofs.Tests.{or-neither}
 use Rattle.kripke.specs.declared.graph.Transitions.{Transitions}
 
@@ -69,6 +72,20 @@ judge-rises m room = omega arith
 pub judge-lowest : (m : Model) (room : ℕ) → Lowest (Applies (judgeCauses m room)) (judgeRefusal m room)
 unfolding judgeRefusal
 judge-lowest m room = given 0 (judgeCauses m room) (judge-rises m room)
+
+-- a test that 0 passes is passed by what judging answers, if each cause has a number that passes it or doesn't apply
+pub judge-among : (P : ℕ → Bool) → P 0 ≡ true → (m : Model) (room : ℕ) → All (λ (c : Cause). (P (c .number) ≡ true) ⊎ (c .holds ≡ false)) (judgeCauses m room) → P (judgeRefusal m room) ≡ true
+judge-among P z m room h =
+    ⊎-elim
+    (λ (e : judgeRefusal m room ≡ 0). ap P e ∙ z)
+    (λ (p : 1 ≤ judgeRefusal m room). applies-among P (judgeCauses m room) (judgeRefusal m room) (judge-lowest m room .applies (λ e. omega arith)) h)
+    (eq-zero-or-pos (judgeRefusal m room))
+
+-- where judging answers 22 there is an atom that no node names
+pub refused-unnamed : (m : Model) (room : ℕ) → judgeRefusal m room ≡ 22 → (a : ℕ) × (a < m .atoms) × (unnamed (m .nodes) a ≡ true)
+refused-unnamed m room e =
+    let a : Applies (judgeCauses m room) 22 = subst (Applies (judgeCauses m room)) e (judge-lowest m room .applies (λ z. omega arith)) in
+    applies-shows (judgeCauses m room) 22 a (λ q t. absurd (omega arith), (λ q t. absurd (omega arith), (λ q t. absurd (omega arith), (λ q t. absurd (omega arith), (λ q t. absurd (omega arith), (λ q t. absurd (omega arith), (λ q t. absurd (omega arith), (λ q t. absurd (omega arith), (λ q t. absurd (omega arith), (λ q t. absurd (omega arith), (λ q t. absurd (omega arith), (λ q t. absurd (omega arith), (λ q t. absurd (omega arith), (λ q t. any-where (unnamed (m .nodes)) (m .atoms) t, tt))))))))))))))
 
 -- what the reader of the tables hands on
 table-refusal : (S : ℕ) (es : List ℕ) (r : Transitions) → r ≡ transitionsRead S es → r .refusal ≡ tableRefusal S es

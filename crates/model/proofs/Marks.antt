@@ -2,12 +2,10 @@
 use mathlib.Core.Path.{_≡_, refl, sym, ap, _∙_}
 use Prim.Native.Nat.{ℕ, _+_, _≤_, _<_}
 use mathlib.Core.List.{List}
-use mathlib.Core.Bool.{Bool, true, false, cond, not, _&&_, _||_, or-false}
+use mathlib.Core.Bool.{Bool, true, false, cond, not, or-false}
 use mathlib.Core.Logic.{⊎-elim}
 use native.Mathlib.Omega.{arith}
 use lib.ListN.{length, replicate, set}
-use lib.Dec.{eqb}
-use borrow.Author.Tests.{eq-eqb, ne-eqb}
 use Rattle.model.specs.Model.{kindAt, leftAt, nodeCount}
 use Rattle.model.specs.Kinds.{ATOM, kindOf}
 use Rattle.model.specs.Inside.{Marked, NodesFit}
@@ -15,20 +13,8 @@ use Rattle.model.specs.Refusals.{names, unnamed}
 use Rattle.lists.specs.Entries.{anyBelow, at}
 use Rattle.lists.proofs.Entries.{set-at-or-not, zero-at}
 use Rattle.lists.proofs.Search.{any-more, any-zero}
-use Rattle.lists.proofs.Tests.{and-both, and-fails, or-right}
-
--- a node of kind 1 names what its left number is, and nothing else; a node of another kind names nothing
-naming : (ns : List ℕ) (a i : ℕ) → kindAt ns i ≡ 1 → leftAt ns i ≡ a → names ns a i ≡ true
-unfolding names
-naming ns a i k e = and-both _ _ (eq-eqb _ _ k) (eq-eqb _ _ e)
-
-other-atom : (ns : List ℕ) (a i : ℕ) → kindAt ns i ≡ 1 → (leftAt ns i ≡ a → ⊥) → names ns a i ≡ false
-unfolding names
-other-atom ns a i k n = ap (λ (b : Bool). b && eqb (leftAt ns i) a) (eq-eqb _ _ k) ∙ ne-eqb _ _ n
-
-other-kind : (ns : List ℕ) (a i : ℕ) → (kindAt ns i ≡ 1 → ⊥) → names ns a i ≡ false
-unfolding names
-other-kind ns a i n = and-fails _ _ (ne-eqb _ _ n)
+use Rattle.lists.proofs.Tests.{or-right}
+use Rattle.model.proofs.Named.{naming, other-atom, other-kind}
 
 module _ (ns : List ℕ) where
   pub unmarked : (n : ℕ) → Marked ns 0 (replicate n 0)

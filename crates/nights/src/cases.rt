@@ -2,7 +2,7 @@
 // The letter is the last byte of its part; what stands before it says why the cases are there.
 //
 //   j        judged, and asked for its refusal; n told in short, as a night
-//   L l o    the same of the largest model, and in short; of the most atoms
+//   L l o O  the same of the largest model, and in short; of the most atoms, and with the last of them unnamed
 //   k        no call: the limits in force
 //   F N C    First, Next, Check; * the three in turn, p of the largest model
 //   t        a text read, and judged with the model's room; 1 2 3 4 read alone, one of the tables one entry short
@@ -29,6 +29,7 @@ use crate::reading;
 use crate::reading::NODES;
 use crate::reading::NONE;
 use crate::table::part;
+use values::limits::MOST_ATOMS;
 use values::limits::MOST_TEXT;
 
 // A case that is a text, judged with so much room.
@@ -64,7 +65,8 @@ fn asked(letter: u8, name: &[u8], model: &[u8], code: &[u8]) {
     match letter {
         b'l' => largest::largest(NIGHT, name),
         b'L' => largest::largest(JUDGE, name),
-        b'o' => largest::most_atoms(name),
+        b'o' => largest::most_atoms(name, MOST_ATOMS - 1),
+        b'O' => largest::most_atoms(name, 0),
         b'k' => lines::limits(),
         b'q' => labels::asked(name, code),
         b'p' => largest::longest(name),

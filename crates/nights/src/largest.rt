@@ -151,12 +151,13 @@ pub(crate) fn longest(name: &[u8]) {
     in_turn(name, &transitions, &left, &right);
 }
 
-// One state with as many atoms as there may be, the last of them unknown: so is the conjunction of all.
-pub(crate) fn most_atoms(name: &[u8]) {
+// One state with as many atoms as there may be, the last of them unknown: so is the conjunction of all. The last atom's node names this one.
+pub(crate) fn most_atoms(name: &[u8], last: usize) {
     let mut labels = [2u8; MOST_ATOMS];
     let mut nodes = [0u16; 6 * MOST_ATOMS];
     labels[MOST_ATOMS - 1] = 1;
     fill(&mut nodes, CONJUNCTS);
+    nodes[3 * MOST_ATOMS - 2] = (last % 65536) as u16;
     judging::asked(
         JUDGE,
         name,

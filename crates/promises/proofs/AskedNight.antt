@@ -48,7 +48,7 @@ abbrev judged : Model
 judged = withNodes first (nodesOf tree)
 
 pub askedNight : AskedNight
-unfolding joined bytesOf entries.anyBelow rowed.tab rowed.each choosing.best choosing.lowest graphs.succs walking.walks untils.placeValue untils.untilValue untils.until untils.next kinds.kindOf nodes.nodeValue nodes.nodeRow rows.rowsFrom rows.rowsOf rows.initialStates rows.overInitial rows.modelVerdict judging.badInitial judging.badNodes judging.judgeRefusal stored.someAbove stored.rowSize stored.rowBegin tables.badCount tables.badList causes.refusalOf reading.textOutcome readers.exactly readers.placeOf readers.mayGrow readers.numberFrom readers.number readers.symbol readers.symbols readers.numbers readers.within readers.countLine readers.rowLine readers.numbersLine readers.lines readers.end form.listed form.modelText written.letterOf signs.numeral written.answerLine written.rowLine written.modelLine sheets.whole trees.size texts.textOf lists.nodesFrom
+unfolding joined bytesOf entries.anyBelow rowed.tab rowed.each choosing.best choosing.lowest graphs.succs walking.walks untils.placeValue untils.untilValue untils.until untils.next kinds.kindOf nodes.nodeValue nodes.nodeRow rows.rowsFrom rows.rowsOf rows.initialStates rows.overInitial rows.modelVerdict judging.badInitial judging.badNodes judging.names judging.judgeRefusal stored.someAbove stored.rowSize stored.rowBegin tables.badCount tables.badList causes.refusalOf reading.textOutcome readers.exactly readers.placeOf readers.mayGrow readers.numberFrom readers.number readers.symbol readers.symbols readers.numbers readers.within readers.countLine readers.rowLine readers.numbersLine readers.lines readers.end form.listed form.modelText written.letterOf signs.numeral written.answerLine written.rowLine written.modelLine sheets.whole trees.size texts.textOf lists.nodesFrom
 askedNight before after r h p =
     let j = asked-formula input typed before after r first tree refl accepted refl p in
     let none = taken judged before refl (le-trans (space-within 2 5 (omega arith) (omega arith)) h) in

@@ -32,11 +32,11 @@ use Rattle.sheet.specs.Answers.{withNodes, ModelJudged}
 use Rattle.sheet.specs.Output.{output, whole, lineAt}
 use Rattle.sheet.specs.Output.Place.{here}
 use Rattle.sheet.specs.declared.Sheet.{Sheet}
-use Rattle.sheet.proofs.AskedNumbers.{never-asked, atom-missing}
+use Rattle.sheet.proofs.AskedNumbers.{never-asked, atom-missing, atom-lost}
 use Rattle.sheet.proofs.Asking.{asked-formula, formula-keeps, formula-judged-one}
 use Rattle.sheet.proofs.Meaning.{output-shown, sheet-shown, refusal-shown}
 use Rattle.promises.specs.Formulas.{partRows}
-use Rattle.promises.specs.Asking.{AcceptedIsText, TextIsAccepted, OneReadingEach, RefusedBecause, ReadingRefused, PrintedBack, PrintedOnce, PrintingRefused, OneFormulaPrinted, OnePartPrinted, OneFormulaRead, OneFormulaSheet, FormulaSheetRefusal, FormulaSheetNumbers, AtomMissing, EachPartPrints, FormulaSheetMeaning, AskedLines}
+use Rattle.promises.specs.Asking.{AcceptedIsText, TextIsAccepted, OneReadingEach, RefusedBecause, ReadingRefused, PrintedBack, PrintedOnce, PrintingRefused, OneFormulaPrinted, OnePartPrinted, OneFormulaRead, OneFormulaSheet, FormulaSheetRefusal, FormulaSheetNumbers, AtomMissing, AtomLost, EachPartPrints, FormulaSheetMeaning, AskedLines}
 use Rattle.promises.proofs.Formulas.{partsMeaning, partMeaning, meaningOfFormula}
 use Rattle.promises.proofs.Parts.{parts-count, parts-last}
 
@@ -112,6 +112,9 @@ formulaSheetNumbers = never-asked
 
 pub atomMissing : AtomMissing
 atomMissing = atom-missing
+
+pub atomLost : AtomLost
+atomLost = atom-lost
 
 -- a formula's meaning doesn't depend on the model's own nodes
 row-same : (m : Model) (ns : List ℕ) (f : Formula) → ((s : ℕ) → value (withNodes m ns) f s ≡ value m f s) → valueRow (withNodes m ns) f ≡ valueRow m f

@@ -95,11 +95,11 @@ abbrev pub first : Model
 first = asModel 2 1 (1 ∷ 2 ∷ []) (1 ∷ 0 ∷ []) (0 ∷ 1 ∷ 1 ∷ 1 ∷ []) (1 ∷ 0 ∷ 0 ∷ 4 ∷ 0 ∷ 0 ∷ 2 ∷ 0 ∷ 0 ∷ [])
 
 first-night : Holds (Case.text input printed)
-unfolding joined bytesOf entries.anyBelow rowed.tab rowed.each choosing.best choosing.lowest graphs.succs walking.walks untils.placeValue untils.untilValue untils.until untils.next kinds.kindOf nodes.nodeValue nodes.nodeRow rows.rowsFrom rows.rowsOf rows.initialStates rows.overInitial rows.modelVerdict judging.badInitial judging.badNodes judging.judgeRefusal stored.someAbove stored.rowSize stored.rowBegin tables.badCount tables.badList causes.refusalOf reading.textOutcome readers.exactly readers.placeOf readers.mayGrow readers.numberFrom readers.number readers.symbol readers.symbols readers.numbers readers.within readers.countLine readers.rowLine readers.numbersLine readers.lines readers.end form.listed form.modelText written.letterOf signs.numeral written.answerLine written.rowLine written.modelLine sheets.whole
+unfolding joined bytesOf entries.anyBelow rowed.tab rowed.each choosing.best choosing.lowest graphs.succs walking.walks untils.placeValue untils.untilValue untils.until untils.next kinds.kindOf nodes.nodeValue nodes.nodeRow rows.rowsFrom rows.rowsOf rows.initialStates rows.overInitial rows.modelVerdict judging.badInitial judging.badNodes judging.names judging.judgeRefusal stored.someAbove stored.rowSize stored.rowBegin tables.badCount tables.badList causes.refusalOf reading.textOutcome readers.exactly readers.placeOf readers.mayGrow readers.numberFrom readers.number readers.symbol readers.symbols readers.numbers readers.within readers.countLine readers.rowLine readers.numbersLine readers.lines readers.end form.listed form.modelText written.letterOf signs.numeral written.answerLine written.rowLine written.modelLine sheets.whole
 first-night = text-holds input printed first refl refl (space-within 2 3 (omega arith) (omega arith)) refl
 
 pub nights : Nights
-unfolding entries.anyBelow rowed.tab rowed.each choosing.best choosing.lowest graphs.succs walking.walks untils.placeValue untils.untilValue untils.until untils.next kinds.kindOf nodes.nodeValue nodes.nodeRow rows.rowsFrom rows.rowsOf rows.initialStates rows.overInitial rows.modelVerdict judging.badInitial judging.badNodes judging.judgeRefusal stored.someAbove stored.rowSize stored.rowBegin tables.badCount tables.badList causes.refusalOf tables.tableRefusal stored.badRow stored.valueAt asking.badLevel finding.has finding.unjoined finding.atFault finding.firstFit finding.atOnce gathered.sound gathered.listed gathered.shortestUpto listing.keep
+unfolding entries.anyBelow rowed.tab rowed.each choosing.best choosing.lowest graphs.succs walking.walks untils.placeValue untils.untilValue untils.until untils.next kinds.kindOf nodes.nodeValue nodes.nodeRow rows.rowsFrom rows.rowsOf rows.initialStates rows.overInitial rows.modelVerdict judging.badInitial judging.badNodes judging.names judging.judgeRefusal stored.someAbove stored.rowSize stored.rowBegin tables.badCount tables.badList causes.refusalOf tables.tableRefusal stored.badRow stored.valueAt asking.badLevel finding.has finding.unjoined finding.atFault finding.firstFit finding.atOnce gathered.sound gathered.listed gathered.shortestUpto listing.keep
 nights = (
   first-night,
   (
@@ -157,7 +157,7 @@ nights = (
 )
 
 pub besides : Beside
-unfolding entries.anyBelow rowed.tab rowed.each choosing.best choosing.lowest graphs.succs walking.walks untils.placeValue untils.untilValue untils.until untils.next kinds.kindOf nodes.nodeValue nodes.nodeRow rows.rowsFrom rows.rowsOf rows.initialStates rows.overInitial rows.modelVerdict judging.badInitial judging.badNodes judging.judgeRefusal stored.someAbove stored.rowSize stored.rowBegin tables.badCount tables.badList causes.refusalOf
+unfolding entries.anyBelow rowed.tab rowed.each choosing.best choosing.lowest graphs.succs walking.walks untils.placeValue untils.untilValue untils.until untils.next kinds.kindOf nodes.nodeValue nodes.nodeRow rows.rowsFrom rows.rowsOf rows.initialStates rows.overInitial rows.modelVerdict judging.badInitial judging.badNodes judging.names judging.judgeRefusal stored.someAbove stored.rowSize stored.rowBegin tables.badCount tables.badList causes.refusalOf
 besides = (
   row-holds fork 1 _ refl (omega arith) refl,
   (

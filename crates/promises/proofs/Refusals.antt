@@ -9,9 +9,11 @@ use Rattle.model.specs.Model.{Model}
 use Rattle.model.specs.Refusals.{judgeCauses}
 use Rattle.ctl.specs.Answers.{Judging, judgedAs, numberOf}
 use Rattle.ctl.specs.Rows.{modelVerdict}
-use Rattle.ctl.specs.declared.Judged.the-variants.{Refused}
-use Rattle.promises.specs.Refusals.{OneAnswer, RefusalKeeps, RefusalLowest}
-use Rattle.model.proofs.Lowest.{judge-lowest}
+use Rattle.ctl.specs.declared.Judged.the-variants.{Refused, Verdicts}
+use Rattle.promises.specs.Refusals.{JudgedNamed, OneAnswer, RefusalKeeps, RefusalLowest, UnnamedRefused}
+use Rattle.model.proofs.Fine.{judge-fine}
+use Rattle.model.proofs.Lowest.{judge-lowest, refused-unnamed}
+use Rattle.model.proofs.Named.{named-nowhere, named-there}
 use Rattle.ctl.proofs.OneAnswer.{judging-keeps, judging-number, judging-one}
 
 -- a refusal's number is not 0
@@ -27,6 +29,16 @@ refusalKeeps m before after n p = judging-keeps m before after (Refused n) p (re
 
 pub refusalLowest : RefusalLowest
 refusalLowest m before after r p = subst (Lowest (Applies (judgeCauses m (length before)))) (sym (judging-number m before after r p)) (judge-lowest m (length before))
+
+pub unnamedRefused : UnnamedRefused
+unfolding numberOf
+unnamedRefused m before after p =
+    let lost = refused-unnamed m (length before) (sym (judging-number m before after (Refused 22) p)) in
+    (lost .0, lost .1, λ n. named-nowhere (m .nodes) (lost .0) (lost .2) (n .0) (n .1) (n .2) (n .3))
+
+pub judgedNamed : JudgedNamed
+unfolding numberOf
+judgedNamed m before after v p a h = named-there (m .nodes) a (judge-fine m (length before) (sym (judging-number m before after (Verdicts v) p)) .named a h)
 
 pub oneAnswer : OneAnswer
 oneAnswer = judging-one

@@ -9,7 +9,7 @@ use Rattle.values.specs.Limits.{mostFormula, mostNodes, mostNodeNumbers}
 use Rattle.values.specs.Rows.{mostVerdicts}
 use Rattle.model.specs.Model.{Model}
 use Rattle.ctl.specs.Rows.{overInitial}
-use Rattle.formula.specs.Tree.{Formula, size, AtomsBelow, Named}
+use Rattle.formula.specs.Tree.{Formula, size, AtomsBelow, Named, Names}
 use Rattle.formula.specs.Text.{textOf}
 use Rattle.formula.specs.Nodes.{nodesOf}
 use Rattle.formula.specs.Meaning.{valueRow}
@@ -105,6 +105,12 @@ abbrev pub AtomMissing : Type 0
 AtomMissing =
     (text before after : List ℕ) (r : Sheet) (m : Model) (f : Formula) → textOutcome text ≡ Outcome.model m → Accepted f
     → FormulaJudged text (textOf f) before after r → r .number ≡ 12 → AtomsBelow (m .atoms) f → ⊥
+
+-- "A formula that had lost an atom": it is refused with 22 only where it leaves out an atom of the model, and judged only where it names all.
+abbrev pub AtomLost : Type 0
+AtomLost =
+    (text before after : List ℕ) (r : Sheet) (m : Model) (f : Formula) → textOutcome text ≡ Outcome.model m → Accepted f → FormulaJudged text (textOf f) before after r
+    → (r .number ≡ 22 → (a : ℕ) × (a < m .atoms) × (Names f a → ⊥)) × (r .number ≡ 0 → (a : ℕ) → a < m .atoms → Names f a)
 
 -- Each node of an accepted formula's list is the whole of an accepted formula, which `print_part` prints, and the row of that node is its meaning.
 abbrev pub EachPartPrints : Type 0

@@ -1,31 +1,33 @@
--- Numbers that a formula is never refused with in a space for the largest model, and 12 only where it names an atom that the model hasn't.
+-- Numbers that a formula is never refused with in a space for the largest model, 12 only where it names an atom that the model hasn't, and 22
+-- only where it has lost one that the model has.
 use mathlib.Core.Path.{_≡_, refl, sym, ap, _∙_, subst}
 use Prim.Native.Nat.{ℕ, _≤_, _<_}
 use mathlib.Core.List.{List}
 use mathlib.Core.Bool.{Bool, true, false, not, _||_, true≢false}
-use mathlib.Core.Logic.{inl, inr, ⊎-elim}
+use mathlib.Core.Logic.{inl, inr}
 use native.Mathlib.Omega.{arith}
-use native.Mathlib.Nat.{eq-zero-or-pos}
 use lib.ListN.{length}
 use lib.Dec.{eqb, ltb}
 use borrow.Author.Tests.{le-ltb}
 use Rattle.lists.specs.Entries.{anyBelow}
-use Rattle.lists.proofs.Causes.{applies-among}
 use Rattle.lists.proofs.Entries.{all-member}
 use Rattle.lists.proofs.Search.{any-same, any-never}
 use Rattle.values.specs.Limits.{greatestKind, mostNodes, mostNodeNumbers}
 use Rattle.values.specs.Rows.{mostVerdicts, rowBegin}
 use Rattle.values.proofs.StoredRows.{space-within}
 use Rattle.model.specs.Model.{Model, nodeCount, kindAt}
-use Rattle.model.specs.Refusals.{badOperand, judgeCauses, judgeRefusal}
+use Rattle.model.specs.Refusals.{badOperand, judgeRefusal}
 use Rattle.model.proofs.Labels.{fine-tests}
-use Rattle.model.proofs.Lowest.{judge-lowest}
-use Rattle.formula.specs.Tree.{Formula, size, AtomsBelow}
+use Rattle.model.proofs.Fine.{judge-fine}
+use Rattle.model.proofs.Lowest.{judge-among, refused-unnamed}
+use Rattle.model.proofs.Named.{named-nowhere, named-there}
+use Rattle.formula.specs.Tree.{Formula, size, AtomsBelow, Names}
 use Rattle.formula.specs.Text.{textOf}
 use Rattle.formula.specs.Nodes.{nodesOf}
 use Rattle.formula.specs.Answers as formula
 use Rattle.formula.proofs.Sizes.{nodes-length}
 use Rattle.formula.proofs.EachPart.{kind-fits, operands-fit}
+use Rattle.formula.proofs.NamedAtoms.{named-node, node-named}
 use Rattle.form.specs.Print.{Printable}
 use Rattle.text.specs.Answers.{Outcome, refusals, textOutcome}
 use Rattle.text.specs.Answers.Outcome.{model, refusal}
@@ -62,19 +64,24 @@ module _ (m : Model) (f : Formula) (room : ℕ) where
       let few : nodeCount (nodesOf f) ≤ mostNodes = omega (arith, count, a .few) in
       let fits = le-ltb room (rowBegin (m .states) (nodeCount (nodesOf f))) (omega (arith, space-within (m .states) (nodeCount (nodesOf f)) (g .states .most) few)) in
       let known = never (λ (i : ℕ). ltb greatestKind (kindAt (nodesOf f) i)) (nodeCount (nodesOf f)) (λ i l. kind-fits f i (omega (arith, count, l))) in
-      ⊎-elim
-      (λ (z : judgeRefusal asked room ≡ 0). ap spared z)
-      (λ (p : 1 ≤ judgeRefusal asked room). applies-among spared (judgeCauses asked room) (judgeRefusal asked room) (judge-lowest asked room .applies (λ z. omega arith)) (inl refl, (inl refl, (inr (tests .0), (inr (tests .1), (inl refl, (inl refl, (inl refl, (inl refl, (inl refl, (inl refl, (inr known, (inl refl, (inr fits, (inl refl, tt)))))))))))))))
-      (eq-zero-or-pos (judgeRefusal asked room))
+      judge-among spared refl asked room (inl refl, (inl refl, (inr (tests .0), (inr (tests .1), (inl refl, (inl refl, (inl refl, (inl refl, (inl refl, (inl refl, (inr known, (inl refl, (inr fits, (inl refl, tt))))))))))))))
 
   judged-other : AtomsBelow (m .atoms) f → other (judgeRefusal asked room) ≡ true
   unfolding other
   judged-other b =
       let fit = never (badOperand (m .atoms) (nodesOf f)) (nodeCount (nodesOf f)) (λ i l. operands-fit f (m .atoms) i b (omega (arith, count, l))) in
-      ⊎-elim
-      (λ (z : judgeRefusal asked room ≡ 0). ap other z)
-      (λ (p : 1 ≤ judgeRefusal asked room). applies-among other (judgeCauses asked room) (judgeRefusal asked room) (judge-lowest asked room .applies (λ z. omega arith)) (inl refl, (inl refl, (inl refl, (inl refl, (inl refl, (inl refl, (inl refl, (inl refl, (inl refl, (inl refl, (inl refl, (inr fit, (inl refl, (inl refl, tt)))))))))))))))
-      (eq-zero-or-pos (judgeRefusal asked room))
+      judge-among other refl asked room (inl refl, (inl refl, (inl refl, (inl refl, (inl refl, (inl refl, (inl refl, (inl refl, (inl refl, (inl refl, (inl refl, (inr fit, (inl refl, (inl refl, tt))))))))))))))
+
+  -- not refused, it names every atom of the model; and with 22 only where it has lost one
+  judged-names : judgeRefusal asked room ≡ 0 → (a : ℕ) → a < m .atoms → Names f a
+  judged-names z a h =
+      let found = named-there (nodesOf f) a (judge-fine asked room z .named a h) in
+      node-named f a (found .0) (omega (arith, count, found .1)) (found .2) (found .3)
+
+  judged-lost : judgeRefusal asked room ≡ 22 → (a : ℕ) × (a < m .atoms) × (Names f a → ⊥)
+  judged-lost e =
+      let lost = refused-unnamed asked room e in
+      (lost .0, lost .1, λ n. let found = named-node f (lost .0) n in named-nowhere (nodesOf f) (lost .0) (lost .2) (found .0) (omega (arith, count, found .1)) (found .2) (found .3))
 
 -- what reading a formula comes to: an accepted one, or a number of its own
 accepted : (text : List ℕ) (room : ℕ) (f : Formula) (o : formula.Outcome) → o ≡ formula.Outcome.formula f → formula.Reads text room o → formula.Accepted f
@@ -115,3 +122,10 @@ unfolding other
 atom-missing text before after r m f e a p n b =
     let j = asked-formula text (textOf f) before after r m f e a refl p in
     true≢false (sym (judged-other m f (length before) b) ∙ ap other (sym (model-number (withNodes m (nodesOf f)) before after r j) ∙ n))
+
+pub atom-lost : (text before after : List ℕ) (r : Sheet) (m : Model) (f : Formula) → textOutcome text ≡ model m → formula.Accepted f → FormulaJudged text (textOf f) before after r
+    → (r .number ≡ 22 → (a : ℕ) × (a < m .atoms) × (Names f a → ⊥)) × (r .number ≡ 0 → (a : ℕ) → a < m .atoms → Names f a)
+atom-lost text before after r m f e a p =
+    let j = asked-formula text (textOf f) before after r m f e a refl p in
+    let number = model-number (withNodes m (nodesOf f)) before after r j in
+    (λ n. judged-lost m f (length before) (sym number ∙ n), λ n. judged-names m f (length before) (sym number ∙ n))

@@ -4,9 +4,8 @@ use mathlib.Core.Path.{_≡_, refl, sym, ap, _∙_}
 use Prim.Native.Nat.{ℕ, _≤_}
 use mathlib.Core.List.{List, List·Memᴰ}
 use mathlib.Core.Bool.{Bool, true, not, _||_, true≢false}
-use mathlib.Core.Logic.{_⊎_, inl, inr, ⊎-elim}
+use mathlib.Core.Logic.{inl, inr}
 use native.Mathlib.Omega.{arith}
-use native.Mathlib.Nat.{eq-zero-or-pos}
 use lib.ListN.{length}
 use lib.Dec.{eqb}
 use borrow.Author.Tests.{le-ltb}
@@ -14,16 +13,15 @@ use Rattle.values.specs.Rows.{mostVerdicts, rowBegin}
 use Rattle.values.specs.Values.{top}
 use Rattle.model.specs.Labels.{Labels}
 use Rattle.model.specs.Model.{Model, nodeCount}
-use Rattle.model.specs.Refusals.{judgeCauses, judgeRefusal}
+use Rattle.model.specs.Refusals.{judgeRefusal}
 use Rattle.text.specs.Answers.{Outcome, countsDue, numberDue, outcome, refusals, tablesDue, textOutcome}
 use Rattle.text.specs.Answers.Outcome.{model, refusal}
 use Rattle.form.specs.Print.{Printable}
 use Rattle.sheet.specs.declared.Sheet.{Sheet}
 use Rattle.sheet.specs.Answers.{Judges, TextJudged}
-use Rattle.lists.proofs.Causes.{applies-among}
 use Rattle.lists.proofs.Entries.{all-at, all-member}
 use Rattle.model.proofs.Labels.{fine-tests}
-use Rattle.model.proofs.Lowest.{judge-lowest}
+use Rattle.model.proofs.Lowest.{judge-among}
 use Rattle.sheet.proofs.Meaning.{model-number}
 use Rattle.text.proofs.Promised.{outcome-printable}
 use Rattle.text.proofs.Refusals.{only-these}
@@ -48,10 +46,7 @@ unfolding spared
 judged-spared m room g h =
     let tests = fine-tests m (labels-fit m g) in
     let fits = le-ltb room (rowBegin (m .states) (nodeCount (m .nodes))) (omega (arith, space-within (m .states) (nodeCount (m .nodes)) (g .states .most) (g .nodes .count .most))) in
-    ⊎-elim
-    (λ (z : judgeRefusal m room ≡ 0). ap spared z)
-    (λ (p : 1 ≤ judgeRefusal m room). applies-among spared (judgeCauses m room) (judgeRefusal m room) (judge-lowest m room .applies (λ z. omega arith)) (inl refl, (inl refl, (inr (tests .0), (inr (tests .1), (inl refl, (inl refl, (inl refl, (inl refl, (inl refl, (inl refl, (inl refl, (inl refl, (inr fits, (inl refl, tt)))))))))))))))
-    (eq-zero-or-pos (judgeRefusal m room))
+    judge-among spared refl m room (inl refl, (inl refl, (inr (tests .0), (inr (tests .1), (inl refl, (inl refl, (inl refl, (inl refl, (inl refl, (inl refl, (inl refl, (inl refl, (inr fits, (inl refl, tt))))))))))))))
 
 by-outcome : (text : List ℕ) (o : Outcome) → textOutcome text ≡ o → (before after : List ℕ) (r : Sheet) → mostVerdicts ≤ length before → Judges o before after r → spared (r .number) ≡ true
 unfolding spared
