@@ -10,7 +10,12 @@ use Rattle.model.specs.Refusals.{names, unnamed}
 use Rattle.lists.proofs.Search.{any-none, any-where}
 use Rattle.lists.proofs.Tests.{and-both, and-fails, and-parts}
 
--- a node of kind 1 names what its left number is, and nothing else; a node of another kind names nothing
+-- a node of another kind names nothing, whatever its numbers are
+pub other-kind : (ns : List ℕ) (a i : ℕ) → (kindAt ns i ≡ 1 → ⊥) → names ns a i ≡ false
+unfolding names
+other-kind ns a i n = and-fails _ _ (ne-eqb _ _ n)
+
+-- a node of kind 1 names what its left number is, and nothing else
 pub naming : (ns : List ℕ) (a i : ℕ) → kindAt ns i ≡ 1 → leftAt ns i ≡ a → names ns a i ≡ true
 unfolding names
 naming ns a i k e = and-both _ _ (eq-eqb _ _ k) (eq-eqb _ _ e)
@@ -18,10 +23,6 @@ naming ns a i k e = and-both _ _ (eq-eqb _ _ k) (eq-eqb _ _ e)
 pub other-atom : (ns : List ℕ) (a i : ℕ) → kindAt ns i ≡ 1 → (leftAt ns i ≡ a → ⊥) → names ns a i ≡ false
 unfolding names
 other-atom ns a i k n = ap (λ (b : Bool). b && eqb (leftAt ns i) a) (eq-eqb _ _ k) ∙ ne-eqb _ _ n
-
-pub other-kind : (ns : List ℕ) (a i : ℕ) → (kindAt ns i ≡ 1 → ⊥) → names ns a i ≡ false
-unfolding names
-other-kind ns a i n = and-fails _ _ (ne-eqb _ _ n)
 
 -- an atom that is not unnamed stands in a node of kind 1
 pub named-there : (ns : List ℕ) (a : ℕ) → unnamed ns a ≡ false → (i : ℕ) × (i < nodeCount ns) × (kindAt ns i ≡ 1) × (leftAt ns i ≡ a)
