@@ -20,4 +20,4 @@ use Rattle.lists.specs.Causes as causes
 
 pub kindNights : KindNights
 unfolding entries.anyBelow rowed.tab rowed.each choosing.best choosing.lowest graphs.succs walking.walks untils.placeValue untils.untilValue untils.until untils.next untils.everywhere untils.opposite kinds.kindOf nodes.nodeValue nodes.nodeRow rows.rowsFrom rows.rowsOf rows.initialStates rows.overInitial rows.modelVerdict judging.badInitial judging.badNodes judging.names judging.judgeRefusal stored.someAbove stored.rowSize stored.rowBegin tables.badCount tables.badList causes.refusalOf
-kindNights = (row-holds (branching _) 2 _ refl (omega arith) refl, (row-holds (branching _) 3 _ refl (omega arith) refl, (row-holds (branching _) 4 _ refl (omega arith) refl, (row-holds (branching _) 1 _ refl (omega arith) refl, (row-holds (branching _) 3 _ refl (omega arith) refl, (row-holds (branching _) 4 _ refl (omega arith) refl, (row-holds (branching _) 5 _ refl (omega arith) refl, (row-holds joining 2 _ refl (omega arith) refl, (row-holds joining 3 _ refl (omega arith) refl, (row-holds joining 4 _ refl (omega arith) refl, (refused-holds (lastNode _) 11 (λ room. refl) (λ e. omega arith), (refused-holds (lastNode _) 12 (λ room. refl) (λ e. omega arith), (refused-holds (lastNode _) 12 (λ room. refl) (λ e. omega arith), tt)))))))))))))
+kindNights = (row-holds (branching _) 2 _ refl (omega arith) refl, (row-holds (branching _) 3 _ refl (omega arith) refl, (row-holds (branching _) 4 _ refl (omega arith) refl, (row-holds (branching _) 1 _ refl (omega arith) refl, (row-holds (branching _) 3 _ refl (omega arith) refl, (row-holds (branching _) 4 _ refl (omega arith) refl, (row-holds (branching _) 5 _ refl (omega arith) refl, (row-holds joining 2 _ refl (omega arith) refl, (row-holds joining 3 _ refl (omega arith) refl, (row-holds joining 4 _ refl (omega arith) refl, (refused-holds (lastNode _) 11 refl (λ e. omega arith), (refused-holds (lastNode _) 12 refl (λ e. omega arith), (refused-holds (lastNode _) 12 refl (λ e. omega arith), tt)))))))))))))

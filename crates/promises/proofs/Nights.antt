@@ -20,7 +20,7 @@ use Rattle.paths.specs.Runs.{Roomy, Run}
 use Rattle.text.specs.Answers.{Outcome, textOutcome}
 use Rattle.sheet.specs.Answers.{Judges}
 use Rattle.sheet.specs.Output.{whole}
-use Rattle.promises.specs.Nights.{Beside, Case, Holds, Nights, bytesOf, diamond, doubted, fork, input, joined, labelled, lastNode, printed, slanted, twoInitial, waiting}
+use Rattle.promises.specs.Nights.{Beside, Case, Holds, Nights, bytesOf, diamond, doubted, fork, input, joined, labelled, lastNode, afterFirst, printed, slanted, twoInitial, waiting}
 use Rattle.ctl.proofs.Held.{row-held}
 use Rattle.model.proofs.Fine.{more-room}
 use Rattle.paths.proofs.Gathering.{shortestUpto}
@@ -57,9 +57,12 @@ use Rattle.paths.proofs.Listing as listing
 abbrev pub size : Model → ℕ
 size m = rowBegin (m .states) (nodeCount (m .nodes))
 
--- a model that the smallest space takes is taken by every space with room for its rows
+-- the number that the smallest space gets, 0 too, is that of every space with room for the rows
+numbered : (m : Model) (before : List ℕ) (n : ℕ) → judgeRefusal m (size m) ≡ n → size m ≤ length before → numberDue m before ≡ n
+numbered m before n e h = more-room m (length before) (size m) h (omega arith) ∙ e
+
 pub taken : (m : Model) (before : List ℕ) → judgeRefusal m (size m) ≡ 0 → size m ≤ length before → numberDue m before ≡ 0
-taken m before z h = more-room m (length before) (size m) h (omega arith) ∙ z
+taken m before = numbered m before 0
 
 pub row-holds : (m : Model) (k : ℕ) (values : List ℕ) → judgeRefusal m (size m) ≡ 0 → k < nodeCount (m .nodes) → getD (rowsOf m) k [] ≡ values → Holds (Case.row m k values)
 row-holds m k values z l e before after r h p =
@@ -74,8 +77,8 @@ row-holds m k values z l e before after r h p =
 model-holds : (m : Model) (v : ℕ) → judgeRefusal m (size m) ≡ 0 → modelVerdict m ≡ v → Holds (Case.model m v)
 model-holds m v z e before after r h p = accepted-verdict m before after r p (taken m before z h) ∙ ap (λ (x : ℕ). Verdicts (verdict x)) e
 
-pub refused-holds : (m : Model) (n : ℕ) → ((room : ℕ) → judgeRefusal m room ≡ n) → (n ≡ 0 → ⊥) → Holds (Case.refused m n)
-refused-holds m n e some before after r h p = refused-number m before after r n p (e (length before)) some
+pub refused-holds : (m : Model) (n : ℕ) → judgeRefusal m (size m) ≡ n → (n ≡ 0 → ⊥) → Holds (Case.refused m n)
+refused-holds m n e some before after r h p = refused-number m before after r n p (numbered m before n e h) some
 
 text-holds : (text out : List ℕ) (m : Model) → textOutcome text ≡ Outcome.model m → judgeRefusal m (size m) ≡ 0 → size m ≤ mostVerdicts → bytesOf (whole (rowsOf m) (modelVerdict m)) ≡ out → Holds (Case.text text out)
 text-holds text out m reads z fits prints before after r h p =
@@ -175,14 +178,23 @@ besides = (
               (
                 model-holds (lastNode _) 0 refl refl,
                 (
-                  refused-holds (lastNode _) 12 (λ room. refl) (λ e. omega arith),
+                  refused-holds (lastNode _) 12 refl (λ e. omega arith),
                   (
-                    refused-holds (lastNode _) 12 (λ room. refl) (λ e. omega arith),
+                    refused-holds (lastNode _) 12 refl (λ e. omega arith),
                     (
-                      refused-holds (lastNode _) 12 (λ room. refl) (λ e. omega arith),
+                      refused-holds (lastNode _) 12 refl (λ e. omega arith),
                       (
-                        refused-holds (lastNode _) 12 (λ room. refl) (λ e. omega arith),
-                        tt,
+                        refused-holds (lastNode _) 12 refl (λ e. omega arith),
+                        (
+                          refused-holds (afterFirst _) 22 refl (λ e. omega arith),
+                          (
+                            refused-holds (afterFirst _) 22 refl (λ e. omega arith),
+                            (
+                              model-holds (afterFirst _) 2 refl refl,
+                              tt,
+                            ),
+                          ),
+                        ),
                       ),
                     ),
                   ),

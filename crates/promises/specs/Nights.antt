@@ -148,6 +148,10 @@ slanted = asModel 2 2 (2 ∷ 0 ∷ 1 ∷ 0 ∷ []) (1 ∷ 0 ∷ []) (0 ∷ 1 ∷
 abbrev pub lastNode : List ℕ → Model
 lastNode node = asModel 1 1 (2 ∷ []) (1 ∷ []) (0 ∷ 0 ∷ []) (1 ∷ 0 ∷ 0 ∷ [] ++ node)
 
+-- one state, both atoms true, the first one's node and then these
+abbrev pub afterFirst : List ℕ → Model
+afterFirst nodes = asModel 1 2 (2 ∷ 2 ∷ []) (1 ∷ []) (0 ∷ 0 ∷ []) (1 ∷ 0 ∷ 0 ∷ [] ++ nodes)
+
 -- what a wrong reading would get wrong
 abbrev pub beside : List Case
 beside =
@@ -168,6 +172,10 @@ beside =
     ∷ refused (lastNode (4 ∷ 0 ∷ 1 ∷ [])) 12
     ∷ refused (lastNode (0 ∷ 1 ∷ 0 ∷ [])) 12
     ∷ refused (lastNode (1 ∷ 0 ∷ 1 ∷ [])) 12
+    -- every atom is named by a node of its kind, and a not of node 1 doesn't name atom 1
+    ∷ refused (afterFirst []) 22
+    ∷ refused (afterFirst (0 ∷ 0 ∷ 0 ∷ 2 ∷ 1 ∷ 0 ∷ [])) 22
+    ∷ model (afterFirst (1 ∷ 1 ∷ 0 ∷ [])) 2
     ∷ []
 
 -- holds as well
