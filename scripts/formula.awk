@@ -119,5 +119,5 @@ function atom_beyond(text, atoms, digits) {
 function atoms_lost(text, atoms, set, a, lost) {
     atoms_in(text, set)
     for (a = 0; a < atoms; a++) if (!(a in set)) lost = lost (lost == "" ? "p" : ", p") a
-    return lost == "" ? "" : "the formula doesn't name " lost ", and the model has " atoms_named(atoms) "; with --only-named it is judged without"
+    return lost == "" ? "" : "the formula doesn't name " lost ", and the model has " atoms_named(atoms) "; with --only-named it is judged without them"
 }

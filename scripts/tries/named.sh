@@ -15,7 +15,8 @@ given() { # MODEL: what is no model's text, or too long, is given as it is
 }
 filled() { # BYTES LABELS WORDS-OF-THE-PROGRAM: a text of so many
     printf '%b' 'states=2\natoms=3\ninit=#answer=0\nlabel=TUF\nlabel=FTU\nwords=%\n' >labelled
-    printf "%$(($1 - $(wc -c <labelled) - 9))s\nmodel=T\n" '' | tr ' ' x >>labelled
+    written=$(wc -c <labelled)
+    printf "%$(($1 - written - 9))s\nmodel=T\n" '' | tr ' ' x >>labelled
     call "$ask" --only-named labelled p1 >"$out"
     status 0 && wrote_but xx "$(printf 'answer=0\n%b\nwords=%s\nmodel=T' "$2" "$3")" && [ "$(wc -c <labelled)" = "$1" ] && no_scratch
 }
@@ -49,7 +50,7 @@ named_with() { # AWK
 }
 
 if [ -e "$house/scripts/named.awk" ]; then
-    lost="the model has 4 atoms, p0 to p3; with --only-named it is judged without"
+    lost="the model has 4 atoms, p0 to p3; with --only-named it is judged without them"
     try "refusal 22, of the formula" refuses 22 'states=1\natoms=4\n' '(p0&p2)' "the formula doesn't name p1, p3, and $lost"
     try "refusal 22, every atom" refuses 22 'states=1\natoms=4\n' 'AG T' "the formula doesn't name p0, p1, p2, p3, and $lost"
     try "refusal 22, p1 isn't p11" refuses 22 'states=1\natoms=12\n' 'EX p11' "doesn't name p0, p1, p2, p3, p4, p5, p6, p7, p8, p9, p10, and the model"
