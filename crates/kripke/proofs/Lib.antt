@@ -2,6 +2,8 @@ pub mod Begins
 pub mod Halving
 pub mod Refusals
 pub mod Read
+pub mod Reading
+pub mod Opposites
 pub mod Successors
 pub mod Nexts
 pub mod Walks

@@ -3,10 +3,12 @@ use mathlib.Core.Path.{_≡_}
 use Prim.Native.Nat.{ℕ, _+_, _-_, _<_, _≤_}
 use mathlib.Core.List.{List, [], _∷_}
 use lib.ListN.{length}
-use Rattle.lists.specs.Causes.{Cause, cause}
+use Rattle.lists.specs.Causes.{Cause, cause, refusalOf}
 use Rattle.lists.specs.Entries.{anyBelow, at, isNil}
 use Rattle.values.specs.Limits.{mostStates, mostTransitions}
-use Rattle.kripke.specs.Refusals.{badCount, badList, falls, leaves}
+use Rattle.values.specs.Inside.{RowTaken}
+use Rattle.kripke.specs.declared.tables.Tables.{Tables}
+use Rattle.kripke.specs.Refusals.{badCount, badList, falls, leaves, questionCauses}
 use Rattle.kripke.specs.Transitions.{Graph, count, ends, succs}
 
 -- a graph within the limits
@@ -27,6 +29,17 @@ pub record Begun (S : ℕ) (es begins : List ℕ) : Type 0 where
 pub record Ready (S : ℕ) (es begins : List ℕ) : Type 0 where
   pub accepted : Accepted S es
   pub begun : Begun S es begins
+
+-- what is read of a question's tables that are not refused
+pub record Taken (S : ℕ) (es left right : List ℕ) (t : Tables) : Type 0 where
+  pub ready : Ready S es (t .begins)
+  pub left-row : RowTaken S left (t .left)
+  pub right-row : RowTaken S right (t .right)
+
+-- what a caller has of `read_tables`
+pub record TablesRead (S : ℕ) (es left right : List ℕ) (t : Tables) : Type 0 where
+  pub number : t .refusal ≡ refusalOf (questionCauses S es left right)
+  pub taken : t .refusal ≡ 0 → Taken S es left right t
 
 -- the causes in the parts in which they are tried: 7 and 8; 1, 6 and these; and 9
 abbrev pub scanCauses : ℕ → List ℕ → List Cause

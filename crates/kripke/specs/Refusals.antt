@@ -1,12 +1,13 @@
--- When the tables of states and transitions are refused: the causes 1 and 6 to 9.
+-- When the tables of states and transitions are refused, the causes 1 and 6 to 9, and when two rows beside them are, the cause 14.
 use Prim.Native.Nat.{ℕ, _-_, _%_}
-use mathlib.Core.List.{List, [], _∷_}
+use mathlib.Core.List.{List, [], _∷_, _++_}
 use mathlib.Core.Bool.{Bool, not, _&&_, _||_}
 use lib.ListN.{length}
 use lib.Dec.{eqb, ltb, leb}
 use Rattle.lists.specs.Entries.{isNil, anyBelow}
 use Rattle.lists.specs.Causes.{Cause, cause, refusalOf}
 use Rattle.values.specs.Limits.{mostStates, mostTransitionNumbers}
+use Rattle.values.specs.Rows.{badRow}
 use Rattle.kripke.specs.Transitions.{count, from, to, comesBefore, succs}
 
 -- state count 0 or above the most
@@ -41,3 +42,7 @@ tableCauses S es = cause 1 (badCount S) ∷ transitionCauses S es
 -- the lowest number that applies to the tables, or 0
 unfoldable pub tableRefusal : ℕ → List ℕ → ℕ
 tableRefusal S es = refusalOf (tableCauses S es)
+
+-- the causes of a question about two rows: these, and 14, a row not one value a state, or a value above 2
+abbrev pub questionCauses : ℕ → List ℕ → List ℕ → List ℕ → List Cause
+questionCauses S es left right = tableCauses S es ++ (cause 14 (badRow S left || badRow S right) ∷ [])

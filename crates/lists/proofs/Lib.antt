@@ -7,4 +7,5 @@ pub mod Placed
 pub mod Laid
 pub mod Choosing
 pub mod Causes
+pub mod Late
 pub mod Sums

@@ -64,6 +64,19 @@ filled-more f s d out v e h q =
     ∙ sym (append-assoc (tab f s) (f s ∷ []) (drop (suc s) d))
     ∙ ap (λ (k : ℕ). tab f k ++ drop k d) (sym (add-one s))
 
+-- or the entry that stands there already
+pub filled-next : (f : ℕ → ℕ) (s : ℕ) (d out : List ℕ) → Filled f s d out → s < length d → at out s ≡ at d s
+filled-next f s d out e h = ap (λ (l : List ℕ). at l s) (e ∙ ap (λ (r : List ℕ). tab f s ++ r) (drop-cons d s 0 h)) ∙ getD-at (tab f s) (getD d s 0) (drop (suc s) d) 0 s (length-tab f s)
+
+pub filled-stays : (f : ℕ → ℕ) (s : ℕ) (d out : List ℕ) → Filled f s d out → s < length d → at d s ≡ f s → Filled f (s + 1) d out
+unfolding tab
+filled-stays f s d out e h q =
+    e
+    ∙ ap (λ (r : List ℕ). tab f s ++ r) (drop-cons d s 0 h)
+    ∙ ap (λ (x : ℕ). tab f s ++ x ∷ drop (suc s) d) q
+    ∙ sym (append-assoc (tab f s) (f s ∷ []) (drop (suc s) d))
+    ∙ ap (λ (k : ℕ). tab f k ++ drop k d) (sym (add-one s))
+
 pub filled-end : (f : ℕ → ℕ) (s n : ℕ) (d out : List ℕ) → Filled f s d out → s ≤ n → n ≤ s → Filled f n d out
 filled-end f s n d out e h k = let q : s ≡ n = omega arith in e ∙ ap (λ (m : ℕ). tab f m ++ drop m d) q
 

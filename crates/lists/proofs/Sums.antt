@@ -3,7 +3,7 @@ use mathlib.Core.Path.{_≡_, sym, subst}
 use Prim.Native.Nat.{ℕ, zero, suc, _+_, _*_, _≤_, _<_}
 use mathlib.Core.Logic.{⊎-elim}
 use native.Mathlib.Omega.{arith}
-use Rattle.lists.proofs.Numbers.{last-or-before}
+use Rattle.lists.proofs.Numbers.{last-or-before, lt-or-le}
 
 unfoldable pub sum : (ℕ → ℕ) → ℕ → ℕ
 sum f zero = 0
@@ -24,6 +24,10 @@ sum-same f g (suc n) h t s l =
     (λ (e : s ≡ n). subst (λ (x : ℕ). f x ≡ g x) (sym e) (omega arith))
     (λ (k : s < n). sum-same f g n (λ s l. h s (omega arith)) (omega arith) s k)
     (last-or-before l)
+
+-- one that is nowhere smaller and at one place greater has a greater sum
+pub sum-raised : (f g : ℕ → ℕ) (n s : ℕ) → s < n → ((t : ℕ) → t < n → f t ≤ g t) → f s < g s → sum f n < sum g n
+sum-raised f g n s h le l = ⊎-elim (λ k. k) (λ (k : sum g n ≤ sum f n). absurd (omega (arith, sum-same f g n le k s h))) (lt-or-le (sum f n) (sum g n))
 
 pub sum-const : (k n : ℕ) → sum (λ (s : ℕ). k) n ≡ n * k
 unfolding sum

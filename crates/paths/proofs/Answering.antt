@@ -21,7 +21,7 @@ use Rattle.paths.specs.Answers.{CheckPromise, FirstPromise, NextPromise}
 use Rattle.paths.specs.Inside.{Down, Far, FirstFound, NextFound}
 use Rattle.paths.proofs.Advancing.{down-length}
 use Rattle.paths.proofs.Places.{whole}
-use Rattle.paths.proofs.Refusing.{lowest-early, lowest-late, lowest-none}
+use Rattle.lists.proofs.Late.{lowest-early, lowest-late, lowest-none}
 use Rattle.paths.proofs.Shortests.{down-shortest, first-least, has-distance, next-least, no-witness, none-larger, shortest-down, sound-shortest, witness-down}
 
 pub causes-rise : (q : Question) → Rising 0 (causes q)

@@ -1,5 +1,4 @@
 pub mod Scans
-pub mod Reading
 pub mod Places
 pub mod Breaks
 pub mod Fits
@@ -10,7 +9,6 @@ pub mod Advancing
 pub mod Orders
 pub mod Ways
 pub mod Shortests
-pub mod Refusing
 pub mod Answering
 pub mod Promising
 pub mod OneAnswer

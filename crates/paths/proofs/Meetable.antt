@@ -22,7 +22,7 @@ use Rattle.paths.specs.Refusals.{FirstApplies, TooShort, badLevel, first
 use Rattle.paths.specs.Answers.{FirstPromise, firstNumber}
 use Rattle.paths.specs.Runs.{Chain, Ends, Goes, Roomy, Run}
 use Rattle.paths.proofs.Answering.{first-causes-rise}
-use Rattle.paths.proofs.Refusing.{applies-none, only-late}
+use Rattle.lists.proofs.Late.{applies-none, only-late}
 
 -- no cause applies to a question on accepted tables, of a level that is one and from a state
 pub fine-question : (S : ℕ) (es left right : List ℕ) (level start : ℕ) → tableRefusal S es ≡ 0 → badRow S left ≡ false → badRow S right ≡ false → (level ≡ 1) ⊎ (level ≡ 2) → start < S → refusalOf (firstCauses (asked S es left right level) start) ≡ 0

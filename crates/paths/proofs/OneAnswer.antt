@@ -12,7 +12,7 @@ use Rattle.paths.specs.declared.NextAnswer.{NextAnswer}
 use Rattle.paths.specs.declared.NextAnswer.the-variants as next
 use Rattle.paths.specs.declared.CheckAnswer.{CheckAnswer}
 use Rattle.paths.specs.declared.CheckAnswer.the-variants as check
-use Rattle.paths.specs.Questions.{Question}
+use Rattle.paths.specs.Questions.{Question, Witness}
 use Rattle.paths.specs.Answers.{CheckPromise, CheckSays, FirstPath, FirstPromise, FirstSays, NextPromise, NextSays, checkNumber, firstNumber, nextNumber}
 use Rattle.paths.proofs.Orders.{least-one}
 
@@ -49,16 +49,17 @@ next-one q path a b x y f g = go x y (lowest-one (f .number) (g .number)) (f .sa
     go (next.Refused n) next.End e f g = absurd (omega (arith, f .numbered))
     go (next.Refused n) (next.Refused m) e f g = (ap next.Refused e, f .untouched ∙ sym (g .untouched))
 
+-- of any check
+pub check-same : (Is : Type 0) (x y : CheckAnswer) → checkNumber x ≡ checkNumber y → CheckSays Is x → CheckSays Is y → x ≡ y
+check-same Is check.Yes check.Yes e f g = refl
+check-same Is check.Yes check.No e f g = absurd (g f)
+check-same Is check.Yes (check.Refused m) e f g = absurd (omega arith)
+check-same Is check.No check.Yes e f g = absurd (f g)
+check-same Is check.No check.No e f g = refl
+check-same Is check.No (check.Refused m) e f g = absurd (omega arith)
+check-same Is (check.Refused n) check.Yes e f g = absurd (omega arith)
+check-same Is (check.Refused n) check.No e f g = absurd (omega arith)
+check-same Is (check.Refused n) (check.Refused m) e f g = ap check.Refused e
+
 pub check-one : (q : Question) (path : List ℕ) (x y : CheckAnswer) → CheckPromise q path x → CheckPromise q path y → x ≡ y
-check-one q path x y f g = go x y (lowest-one (f .number) (g .number)) (f .says) (g .says)
-  where
-    go : (x y : CheckAnswer) → checkNumber x ≡ checkNumber y → CheckSays q path x → CheckSays q path y → x ≡ y
-    go check.Yes check.Yes e f g = refl
-    go check.Yes check.No e f g = absurd (g f)
-    go check.Yes (check.Refused m) e f g = absurd (omega arith)
-    go check.No check.Yes e f g = absurd (f g)
-    go check.No check.No e f g = refl
-    go check.No (check.Refused m) e f g = absurd (omega arith)
-    go (check.Refused n) check.Yes e f g = absurd (omega arith)
-    go (check.Refused n) check.No e f g = absurd (omega arith)
-    go (check.Refused n) (check.Refused m) e f g = ap check.Refused e
+check-one q path x y f g = check-same (Witness q path) x y (lowest-one (f .number) (g .number)) (f .says) (g .says)

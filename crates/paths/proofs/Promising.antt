@@ -15,16 +15,17 @@ use Rattle.paths.specs.declared.FirstAnswer.the-variants as first
 use Rattle.paths.specs.declared.NextAnswer.{NextAnswer}
 use Rattle.paths.specs.declared.NextAnswer.the-variants as next
 use Rattle.paths.specs.declared.CheckAnswer.the-variants as check
-use Rattle.paths.specs.declared.tables.Tables.{Tables}
+use Rattle.kripke.specs.declared.tables.Tables.{Tables}
 use Rattle.paths.specs.declared.faults.Fault.the-variants.{At, Nowhere}
 use Rattle.paths.specs.Questions.{From, LeftHolds, Question, Reaches, RightHolds, Witness, asked}
 use Rattle.paths.specs.Refusals.{badLevel, causes, firstCauses}
 use Rattle.paths.specs.Answers.{CheckPromise, FirstPromise, NextPromise}
-use Rattle.paths.specs.Inside.{Far, FaultFound, FirstWorked, Measured, NextWorked, TablesRead, Taken}
+use Rattle.paths.specs.Inside.{Far, FaultFound, FirstWorked, Measured, NextWorked}
+use Rattle.kripke.specs.Inside.{TablesRead, Taken}
 use Rattle.paths.proofs.Answering.{check-no, check-refused, check-yes, first-found, first-refused, next-found, next-refused, next-wrong}
 use Rattle.paths.proofs.Breaks.{faultless, no-fault}
 use Rattle.paths.proofs.Places.{from-map, reaches-row, row-reaches, whole}
-use Rattle.paths.proofs.Refusing.{before-15, given-15, not-15}
+use Rattle.kripke.proofs.Reading.{before-15, given-15, not-15}
 use Rattle.paths.proofs.Shortests.{far-map}
 
 module _ (S : ℕ) (es left right : List ℕ) (level : ℕ) (t : Tables) (r : TablesRead S es left right t) where

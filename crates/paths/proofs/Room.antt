@@ -9,7 +9,7 @@ use Rattle.paths.specs.declared.FirstAnswer.the-variants as first
 use Rattle.paths.specs.Questions.{LeftHolds, Question, RightHolds, Shortest, Witness, Witnessed, WitnessedWithin}
 use Rattle.paths.specs.Refusals.{firstCauses}
 use Rattle.paths.specs.Answers.{FirstPromise}
-use Rattle.paths.proofs.Refusing.{applies-below}
+use Rattle.lists.proofs.Late.{applies-below}
 use Rattle.paths.proofs.Simple.{shorten}
 
 shorter : (q : Question) (s : ℕ) (p : List ℕ) → Begins s p → Witness q p → WitnessedWithin q s (q .states)

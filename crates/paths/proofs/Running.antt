@@ -21,22 +21,19 @@ use Rattle.paths.specs.declared.NextAnswer.{NextAnswer}
 use Rattle.paths.specs.declared.NextAnswer.the-variants as next
 use Rattle.paths.specs.Questions.{Question, Shortest}
 use Rattle.paths.specs.Order.{Among, Ascending, Beyond, Least, Smaller}
-use Rattle.paths.specs.Refusals.{badLevel, causes, firstCauses, tablesCauses}
+use Rattle.paths.specs.Refusals.{badLevel, causes, firstCauses}
+use Rattle.kripke.specs.Refusals.{questionCauses}
 use Rattle.paths.specs.Answers.{NextPromise}
 use Rattle.paths.specs.Runs.{Chain, Ends, Goes, Opens, OpensNone, Roomy, Run}
 use Rattle.paths.proofs.Answering.{causes-rise, first-causes-rise, first-none-promised, first-path-promised, next-end-promised, next-path-promised}
 use Rattle.paths.proofs.Gathering.{Everyone, everyone, shortestUpto}
 use Rattle.paths.proofs.OneAnswer.{first-one, next-one}
 use Rattle.paths.proofs.Orders.{smaller-irrefl, smaller-trans}
-use Rattle.paths.proofs.Refusing.{applies-none, none-applies}
+use Rattle.lists.proofs.Late.{applies-left, applies-none, none-applies}
 
 -- where a longer table of causes gives no number, neither does one whose causes are among its own
 fewer-causes : (cs ds : List Cause) → Rising 0 cs → Rising 0 ds → ((n : ℕ) → Applies cs n → Applies ds n) → refusalOf ds ≡ 0 → refusalOf cs ≡ 0
 fewer-causes cs ds a b more z = applies-none cs a (λ n x. none-applies ds b z n (more n x))
-
-applies-left : (cs ds : List Cause) (n : ℕ) → Applies cs n → Applies (cs ++ ds) n
-applies-left [] ds n a = absurd a
-applies-left (c ∷ cs) ds n a = ⊎-elim inl (λ k. inr (applies-left cs ds n k)) a
 
 applies-behind : (cs ds es : List Cause) (n : ℕ) → (Applies ds n → Applies es n) → Applies (cs ++ ds) n → Applies (cs ++ es) n
 applies-behind [] ds es n f a = f a
@@ -46,7 +43,7 @@ module _ (q : Question) (start : ℕ) (taken : refusalOf (firstCauses q start) �
   next-taken : refusalOf (causes q) ≡ 0
   next-taken =
       fewer-causes (causes q) (firstCauses q start) (causes-rise q) (first-causes-rise q start)
-      (λ n. applies-behind (tablesCauses (q .states) (q .transitions) (q .left) (q .right)) (cause 15 (badLevel (q .level)) ∷ []) (cause 15 (badLevel (q .level) || leb (q .states) start) ∷ []) n (λ a. ⊎-elim (λ (p : (15 ≡ n) × (badLevel (q .level) ≡ true)). inl (p .0, or-left (badLevel (q .level)) (leb (q .states) start) (p .1))) (λ k. absurd k) a))
+      (λ n. applies-behind (questionCauses (q .states) (q .transitions) (q .left) (q .right)) (cause 15 (badLevel (q .level)) ∷ []) (cause 15 (badLevel (q .level) || leb (q .states) start) ∷ []) n (λ a. ⊎-elim (λ (p : (15 ≡ n) × (badLevel (q .level) ≡ true)). inl (p .0, or-left (badLevel (q .level)) (leb (q .states) start) (p .1))) (λ k. absurd k) a))
       taken
 
   graph : Graph (q .states) (q .transitions)

@@ -12,8 +12,8 @@ use Rattle.lists.specs.Choosing.{best}
 use Rattle.lists.specs.Entries.{at}
 use Rattle.lists.proofs.Choosing.{greatest-bounds}
 use Rattle.lists.proofs.Numbers.{reach-max}
-use Rattle.lists.proofs.Rows.{tab-at}
-use Rattle.values.specs.Rows.{rowValues, valueAt}
+use Rattle.values.specs.Rows.{rowValues}
+use Rattle.values.proofs.StoredRows.{values-at}
 use Rattle.kripke.specs.Transitions.{Graph, succs}
 use Rattle.kripke.specs.Until.{step, until}
 use Rattle.kripke.specs.Walks.{Begins}
@@ -56,10 +56,6 @@ module _ (S : ℕ) (es : List ℕ) (G : Graph S es) (L R : List ℕ) (w : ℕ) w
     where
       more : E S s ≡ E (suc S) s
       more = enough false S es G L R 1 s h ∙ ap (λ (k : ℕ). until false es L R k s) (add-one S)
-
-values-at : (S : ℕ) (stored : List ℕ) (s : ℕ) → s < S → at (rowValues S stored) s ≡ valueAt stored s
-unfolding rowValues
-values-at S stored s h = tab-at (valueAt stored) S s h
 
 -- a witness over the rows' values is one over the stored rows, and back
 module _ (q : Question) where

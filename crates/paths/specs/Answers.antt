@@ -73,10 +73,11 @@ NextSays q before after next.Path = NextPath q before after
 NextSays q before after next.End = NoMore q before after
 NextSays q before after (next.Refused n) = Unchanged n before after
 
-abbrev pub CheckSays : Question → List ℕ → CheckAnswer → Type 0
-CheckSays q path check.Yes = Witness q path
-CheckSays q path check.No = Witness q path → ⊥
-CheckSays q path (check.Refused n) = 0 < n
+-- for a check, of the list's being what is asked for
+abbrev pub CheckSays : Type 0 → CheckAnswer → Type 0
+CheckSays Is check.Yes = Is
+CheckSays Is check.No = Is → ⊥
+CheckSays Is (check.Refused n) = 0 < n
 
 -- `first`: the lowest number that applies, and otherwise the path or that there is none
 pub record FirstPromise (q : Question) (start : ℕ) (before after : List ℕ) (answer : FirstAnswer) : Type 0 where
@@ -91,4 +92,4 @@ pub record NextPromise (q : Question) (before after : List ℕ) (answer : NextAn
 -- `check`: the lowest number that applies, and otherwise yes exactly if the list is a witness
 pub record CheckPromise (q : Question) (path : List ℕ) (answer : CheckAnswer) : Type 0 where
   pub number : Lowest (Applies (causes q)) (checkNumber answer)
-  pub says : CheckSays q path answer
+  pub says : CheckSays (Witness q path) answer

@@ -8,30 +8,14 @@ use lib.ListN.{length, drop, set}
 use lib.Dec.{eqb, ltb, leb}
 use Rattle.lists.specs.Entries.{at, anyBelow}
 use Rattle.lists.specs.Rows.{fill}
-use Rattle.lists.specs.Causes.{refusalOf}
 use Rattle.kripke.specs.Transitions.{Edge, succs}
-use Rattle.kripke.specs.Inside.{Ready}
-use Rattle.values.specs.Inside.{RowTaken}
 use Rattle.paths.specs.declared.FirstAnswer.{FirstAnswer}
 use Rattle.paths.specs.declared.FirstAnswer.the-variants as first
 use Rattle.paths.specs.declared.NextAnswer.{NextAnswer}
 use Rattle.paths.specs.declared.NextAnswer.the-variants as next
-use Rattle.paths.specs.declared.tables.Tables.{Tables}
 use Rattle.paths.specs.declared.faults.Fault.{Fault}
 use Rattle.paths.specs.declared.faults.Fault.the-variants.{At, Nowhere}
 use Rattle.paths.specs.Questions.{Reaches, From}
-use Rattle.paths.specs.Refusals.{tablesCauses}
-
--- what is read of tables that are not refused
-pub record Taken (S : ℕ) (es left right : List ℕ) (t : Tables) : Type 0 where
-  pub ready : Ready S es (t .begins)
-  pub left-row : RowTaken S left (t .left)
-  pub right-row : RowTaken S right (t .right)
-
--- `read_tables`
-pub record TablesRead (S : ℕ) (es left right : List ℕ) (t : Tables) : Type 0 where
-  pub number : t .refusal ≡ refusalOf (tablesCauses S es left right)
-  pub taken : t .refusal ≡ 0 → Taken S es left right t
 
 -- t is an entry
 unfoldable pub has : ℕ → List ℕ → Bool

@@ -8,24 +8,19 @@ use lib.ListN.{length}
 use lib.Dec.{eqb, leb}
 use Rattle.lists.specs.Entries.{at}
 use Rattle.lists.specs.Causes.{Cause, cause, Applies}
-use Rattle.values.specs.Rows.{badRow}
-use Rattle.kripke.specs.Refusals.{tableCauses}
+use Rattle.kripke.specs.Refusals.{questionCauses}
 use Rattle.paths.specs.Questions.{Question, Shortest}
 
 -- level not 1 or 2
 unfoldable pub badLevel : ℕ → Bool
 badLevel level = not (eqb level 1 || eqb level 2)
 
--- 1, 6 to 9, and 14: a row not one value a state, or a value above 2
-abbrev pub tablesCauses : ℕ → List ℕ → List ℕ → List ℕ → List Cause
-tablesCauses S es left right = tableCauses S es ++ (cause 14 (badRow S left || badRow S right) ∷ [])
-
--- these and 15: the level; for First, also a start that is no state
+-- 1, 6 to 9, 14, and 15: the level; for First, also a start that is no state
 abbrev pub causes : Question → List Cause
-causes q = tablesCauses (q .states) (q .transitions) (q .left) (q .right) ++ (cause 15 (badLevel (q .level)) ∷ [])
+causes q = questionCauses (q .states) (q .transitions) (q .left) (q .right) ++ (cause 15 (badLevel (q .level)) ∷ [])
 
 abbrev pub firstCauses : Question → ℕ → List Cause
-firstCauses q start = tablesCauses (q .states) (q .transitions) (q .left) (q .right) ++ (cause 15 (badLevel (q .level) || leb (q .states) start) ∷ [])
+firstCauses q start = questionCauses (q .states) (q .transitions) (q .left) (q .right) ++ (cause 15 (badLevel (q .level) || leb (q .states) start) ∷ [])
 
 -- a witness exists, and the room is shorter than a shortest one
 pub record TooShort (q : Question) (start room : ℕ) : Type 0 where

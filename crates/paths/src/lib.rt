@@ -1,11 +1,12 @@
 // Paths: the shortest witnesses of an exists-until question, one after the other, and any list checked.
 // What each call promises is named in specs/ and settled for every input.
 //
-//   tables    states, transitions and rows, read and judged; the level's test and the start's
 //   measure   for each state how many entries a shortest witness from it has
 //   faults    the first entry of a list at fault
 //   descent   down to the smallest next state, and on to the next larger list
 //   finding   these put together, for tables that are not refused
+//   tests     the tests of 15
+use kripke::tables::read_tables;
 ghost use Rattle.paths.specs.Questions.{asked};
 ghost use Rattle.paths.specs.Answers.{FirstPromise, NextPromise, CheckPromise};
 
@@ -13,7 +14,7 @@ mod descent;
 mod faults;
 mod finding;
 mod measure;
-mod tables;
+mod tests;
 
 // The length of the path, that there is none, or the number of a refusal.
 pub enum FirstAnswer {
@@ -48,14 +49,14 @@ pub fn first(
 ) -> FirstAnswer
     ensures { λ r. ⌜ FirstPromise (asked states (now (transitions .entry)) (now (left .entry)) (now (right .entry)) level) start (now (path .entry)) (now (path .exit)) r ⌝ }
 {
-    let t = tables::read_tables(states, transitions, left, right);
+    let t = read_tables(states, transitions, left, right);
     if t.refusal != 0 {
         return FirstAnswer::Refused(t.refusal);
     }
-    if tables::bad_level(level) {
+    if tests::bad_level(level) {
         return FirstAnswer::Refused(15);
     }
-    if tables::bad_start(states, start) {
+    if tests::bad_start(states, start) {
         return FirstAnswer::Refused(15);
     }
     finding::first_from(
@@ -81,11 +82,11 @@ pub fn next(
 ) -> NextAnswer
     ensures { λ r. ⌜ NextPromise (asked states (now (transitions .entry)) (now (left .entry)) (now (right .entry)) level) (now (path .entry)) (now (path .exit)) r ⌝ }
 {
-    let t = tables::read_tables(states, transitions, left, right);
+    let t = read_tables(states, transitions, left, right);
     if t.refusal != 0 {
         return NextAnswer::Refused(t.refusal);
     }
-    if tables::bad_level(level) {
+    if tests::bad_level(level) {
         return NextAnswer::Refused(15);
     }
     finding::next_from(
@@ -110,11 +111,11 @@ pub fn check(
 ) -> CheckAnswer
     ensures { λ r. ⌜ CheckPromise (asked states (now (transitions .entry)) (now (left .entry)) (now (right .entry)) level) (now (path .entry)) r ⌝ }
 {
-    let t = tables::read_tables(states, transitions, left, right);
+    let t = read_tables(states, transitions, left, right);
     if t.refusal != 0 {
         return CheckAnswer::Refused(t.refusal);
     }
-    if tables::bad_level(level) {
+    if tests::bad_level(level) {
         return CheckAnswer::Refused(15);
     }
     let fault = faults::first_fault(

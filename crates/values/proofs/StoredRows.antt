@@ -17,7 +17,7 @@ use Rattle.lists.specs.Entries.{at}
 use Rattle.values.specs.Inside.{RowTaken}
 use Rattle.lists.specs.Rows.{Filled, tab}
 use Rattle.lists.proofs.Numbers.{lt-or-le}
-use Rattle.lists.proofs.Rows.{drop-replicate, filled-at, filled-length, tab-own}
+use Rattle.lists.proofs.Rows.{drop-replicate, filled-at, filled-length, tab-at, tab-own}
 use Rattle.lists.proofs.Search.{any-never, any-none, any-same}
 use Rattle.lists.proofs.Tests.{and-both, and-holds, and-parts, or-neither, or-none}
 use Rattle.values.specs.declared.rows.Row.{Row}
@@ -55,6 +55,10 @@ row-read S stored r e v =
       long = filled-length (valueAt stored) S (replicate mostStates 0) (r .values) filled (rw length-replicate few) ∙ length-replicate {A = ℕ} mostStates 0;
       here = filled-at (valueAt stored) S (replicate mostStates 0) (r .values) filled;
     }
+
+pub row-fine : (S : ℕ) (stored : List ℕ) → S ≤ mostStates → badRow S stored ≡ false → RowTaken S stored (rowRead S stored .values)
+unfolding rowRead
+row-fine S stored few fine = row-read S stored (rowRead S stored) refl (and-both (leb S mostStates) (not (badRow S stored)) (le-leb S mostStates few) (ap not fine))
 
 pub row-not-read : (S : ℕ) (stored : List ℕ) (r : Row) → r ≡ rowRead S stored → r .valid ≡ false → S ≤ mostStates → badRow S stored ≡ true
 unfolding rowRead
@@ -104,3 +108,8 @@ stored-valid row h = or-none (not (eqb (length row) (length row))) (someAbove ro
 pub stored-values : (row : List ℕ) → rowValues (length row) (storedRow row) ≡ row
 unfolding rowValues storedRow valueAt
 stored-values row = tab-own row
+
+-- the value at a state, of the values and of what is stored
+pub values-at : (S : ℕ) (stored : List ℕ) (s : ℕ) → s < S → at (rowValues S stored) s ≡ valueAt stored s
+unfolding rowValues
+values-at S stored s h = tab-at (valueAt stored) S s h

@@ -1,8 +1,8 @@
 -- `bad_level` meets its contract: the tests, one after the other.
 use borrow.Author.Tests.{eq-eqb, ne-eqb}
 use Rattle.paths.specs.Refusals.{badLevel}
-use Rattle.paths.proofs.tables.bad_level.Statement.{statement}
-use Rattle.paths.proofs.tables.bad_level.Tie as tie
+use Rattle.paths.proofs.tests.bad_level.Statement.{statement}
+use Rattle.paths.proofs.tests.bad_level.Tie as tie
 
 returns : tie.Need-returns
 unfolding badLevel

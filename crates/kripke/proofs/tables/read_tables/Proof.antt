@@ -1,9 +1,9 @@
 -- `read_tables` meets its contract: what each of the calls gave, put together.
 use mathlib.Core.Path.{refl}
-use Rattle.paths.proofs.Reading.{tables-read}
+use Rattle.kripke.proofs.Reading.{tables-read}
 use borrow.Author.Needs.{needs}
-use Rattle.paths.proofs.tables.read_tables.Statement.{statement}
-use Rattle.paths.proofs.tables.read_tables.Tie as tie
+use Rattle.kripke.proofs.tables.read_tables.Statement.{statement}
+use Rattle.kripke.proofs.tables.read_tables.Tie as tie
 
 read-transitions-requires : tie.Need-read-transitions-requires
 read-transitions-requires c κs = search needs

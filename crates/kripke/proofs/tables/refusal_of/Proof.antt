@@ -1,7 +1,7 @@
 -- `refusal_of` meets its contract: the tests, one after the other.
 use borrow.Author.Tests.{eq-eqb, ne-eqb}
-use Rattle.paths.proofs.tables.refusal_of.Statement.{statement}
-use Rattle.paths.proofs.tables.refusal_of.Tie as tie
+use Rattle.kripke.proofs.tables.refusal_of.Statement.{statement}
+use Rattle.kripke.proofs.tables.refusal_of.Tie as tie
 
 returns : tie.Need-returns
 returns c = rw (ne-eqb _ _ (c .if1 .taken))

@@ -1,36 +1,24 @@
--- The number that is given: the first that applies is the lowest, also where 16 or 17 stands behind the table.
-use mathlib.Core.Path.{_≡_, refl, sym, _∙_, subst}
+-- A table of causes with one cause behind it: the number that is given is the lowest that applies.
+use mathlib.Core.Path.{_≡_, refl, sym, subst}
 use Prim.Native.Nat.{ℕ, _≤_, _<_}
 use mathlib.Core.List.{List, [], _∷_, _++_}
-use mathlib.Core.Bool.{Bool, true, false}
+use mathlib.Core.Bool.{true}
 use mathlib.Core.Logic.{_⊎_, inl, inr, ⊎-elim}
 use native.Mathlib.Omega.{arith}
 use native.Mathlib.Nat.{eq-zero-or-pos}
-use borrow.Author.Tests.{ne-eqb}
 use Rattle.lists.specs.Entries.{All}
-use Rattle.lists.specs.Causes.{Applies, Cause, Lowest, Rising, cause, refusalOf}
-use Rattle.lists.proofs.Causes.{given, none-refused, refused, skipped}
-use Rattle.paths.specs.Refusals.{tablesCauses}
-use Rattle.paths.proofs.Reading.{one-more}
-
--- the table with 15: refused before it, with it, or not at all
-module _ (S : ℕ) (es left right : List ℕ) (b : Bool) (m : ℕ) (e : m ≡ refusalOf (tablesCauses S es left right)) where
-  abbrev with-15 : List Cause
-  with-15 = tablesCauses S es left right ++ (cause 15 b ∷ [])
-
-  pub before-15 : (m ≡ 0 → ⊥) → m ≡ refusalOf with-15
-  before-15 h = sym (one-more S es left right 15 b m e ∙ rw (ne-eqb m 0 h))
-
-  pub given-15 : m ≡ 0 → b ≡ true → 15 ≡ refusalOf with-15
-  given-15 z t = sym (one-more S es left right 15 b m e ∙ rw z (refused 15 b [] t))
-
-  pub not-15 : m ≡ 0 → b ≡ false → refusalOf with-15 ≡ 0
-  not-15 z f = one-more S es left right 15 b m e ∙ rw z (skipped 15 b [] f ∙ none-refused)
+use Rattle.lists.specs.Causes.{Applies, Cause, Lowest, Rising, refusalOf}
+use Rattle.lists.proofs.Causes.{given}
 
 -- a number that applies is no higher than the table's highest
 pub applies-below : (m : ℕ) (cs : List Cause) → All (λ (c : Cause). c .number ≤ m) cs → (n : ℕ) → Applies cs n → n ≤ m
 applies-below m [] a n p = absurd p
 applies-below m (c ∷ cs) a n p = ⊎-elim (λ (h : (c .number ≡ n) × (c .holds ≡ true)). omega (arith, a .0, h .0)) (λ h. applies-below m cs (a .1) n h) p
+
+-- what applies in a table applies in a longer one
+pub applies-left : (cs ds : List Cause) (n : ℕ) → Applies cs n → Applies (cs ++ ds) n
+applies-left [] ds n a = absurd a
+applies-left (c ∷ cs) ds n a = ⊎-elim inl (λ k. inr (applies-left cs ds n k)) a
 
 -- a table gives no number exactly if no cause of it applies
 pub none-applies : (cs : List Cause) → Rising 0 cs → refusalOf cs ≡ 0 → (n : ℕ) → Applies cs n → ⊥
