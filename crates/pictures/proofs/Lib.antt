@@ -1,0 +1,11 @@
+pub mod Ends
+pub mod Closing
+pub mod Walking
+pub mod Exists
+pub mod Finding
+pub mod Marking
+pub mod OnWalk
+pub mod Checks
+pub mod Promising
+pub mod OneAnswer
+pub mod Handed

@@ -1,0 +1,4 @@
+pub mod Pictures
+pub mod Refusals
+pub mod Answers
+pub mod Inside
