@@ -63,7 +63,7 @@ fn any_shape(random: &mut Random, level: u8) -> (Question, u16) {
     (Question { states, level, transitions, left, right }, start)
 }
 
-fn row(random: &mut Random, states: usize, weights: &[usize]) -> Vec<u8> {
+pub fn row(random: &mut Random, states: usize, weights: &[usize]) -> Vec<u8> {
     (0..states).map(|_| random.weighted(weights) as u8).collect()
 }
 
@@ -156,7 +156,7 @@ fn any_list(random: &mut Random, question: &Question, start: u16) -> Vec<u16> {
 }
 
 /// One entry changed, dropped, doubled, put in or appended, or the list turned round.
-fn changed(random: &mut Random, mut list: Vec<u16>, states: usize) -> Vec<u16> {
+pub fn changed(random: &mut Random, mut list: Vec<u16>, states: usize) -> Vec<u16> {
     let (place, state) = (random.below(list.len()), random.below(states) as u16);
     match random.below(6) {
         0 => list[place] = state,
@@ -170,7 +170,7 @@ fn changed(random: &mut Random, mut list: Vec<u16>, states: usize) -> Vec<u16> {
 }
 
 /// A random walk from the start, whatever the rows say.
-fn walk(random: &mut Random, question: &Question, start: u16) -> Vec<u16> {
+pub fn walk(random: &mut Random, question: &Question, start: u16) -> Vec<u16> {
     let next = successors(question.states, &question.transitions);
     let mut list = vec![start];
     for _ in 0..random.below(2 * question.states.min(20) + 1) {

@@ -63,7 +63,7 @@ pub fn sparse(random: &mut Random, states: usize, most: usize) -> Graph {
 }
 
 /// A ring with a few chords.
-fn ring(random: &mut Random, states: usize) -> Graph {
+pub fn ring(random: &mut Random, states: usize) -> Graph {
     let mut graph = Graph::empty(states);
     for state in 0..states {
         graph.join(state, (state + 1) % states);

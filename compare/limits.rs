@@ -50,7 +50,7 @@ fn wide(random: &mut Random, states: usize, atoms: usize, nodes: usize, transiti
 }
 
 /// Exactly so many transitions, one or more from each state, ends chosen at random.
-fn spread(random: &mut Random, states: usize, count: usize) -> Vec<u16> {
+pub fn spread(random: &mut Random, states: usize, count: usize) -> Vec<u16> {
     let mut list = Vec::new();
     for state in 0..states {
         let share = (state + 1) * count / states - state * count / states;

@@ -35,6 +35,16 @@ fn ask(random: &mut Random, call: usize) -> (Question, Asking) {
 
 fn spoil(random: &mut Random, question: &mut Question, asking: &mut Asking, cause: u16) {
     match cause {
+        15 => spoil_level_or_start(random, question, asking),
+        // Without a pair there is no order to spoil.
+        8 if question.transitions.len() < 2 => spoil_level_or_start(random, question, asking),
+        _ => spoil_tables(random, question, cause),
+    }
+}
+
+/// Brings in one of 1, 6 to 9 and 14; 8 needs a pair.
+pub fn spoil_tables(random: &mut Random, question: &mut Question, cause: u16) {
+    match cause {
         1 => question.states = random.pick(&[0, 257, 258, 65_535]),
         6 => spoil_length(random, &mut question.transitions),
         7 => spoiled::foreign_end(random, &mut question.transitions, question.states.clamp(1, 256)),
@@ -46,7 +56,7 @@ fn spoil(random: &mut Random, question: &mut Question, asking: &mut Asking, caus
         }
         9 => dead_end(random, question),
         14 => spoil_row(random, question),
-        _ => spoil_level_or_start(random, question, asking),
+        _ => {}
     }
 }
 
