@@ -2,7 +2,7 @@
 
 use crate::model::{joined, letters, successors};
 use crate::question::{Asking, Question};
-use crate::{formula, judge, labelling, paths, question, reader, readings, refusals};
+use crate::{formula, judge, labelling, paths, pictures, question, reader, readings, refusals};
 
 pub const MOST_PATHS: usize = 200;
 
@@ -11,7 +11,7 @@ pub fn answer(case: &[u8]) -> String {
         return of_model(text);
     }
     let of_others = formula::answering::answer(case).or_else(|| readings::answering::answer(case));
-    of_others.unwrap_or_else(|| {
+    of_others.or_else(|| pictures::answering::answer(case)).unwrap_or_else(|| {
         let (question, asking) = question::read(case);
         of_question(&question, &asking)
     })

@@ -1,4 +1,4 @@
-//! Frames and answers as files: written, taken apart again, and compared.
+//! Frames and answers as files: written, and taken apart again.
 
 /// Six digits of length, a line feed, the text.
 pub fn frame(case: &[u8]) -> Vec<u8> {
@@ -49,10 +49,4 @@ pub fn readable(bytes: &[u8], most: usize) -> String {
         false if shown.ends_with('\n') || shown.is_empty() => shown,
         false => format!("{shown}\n(no line feed at the end)\n"),
     }
-}
-
-/// Every case whose answer differs; more answers than cases count as one more.
-pub fn differing(count: usize, expected: &[&[u8]], got: &[&[u8]]) -> Vec<usize> {
-    let longest = count.max(expected.len()).max(got.len()).min(count + 1);
-    (0..longest).filter(|&place| expected.get(place) != got.get(place)).collect()
 }

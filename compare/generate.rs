@@ -19,17 +19,18 @@ use crate::model::{text_of, Model};
 use crate::question::{Asking, Question};
 use crate::random::Random;
 use crate::refusals::UNNAMED;
-use crate::{askings, breaks, formula, judge, misasked, models, naming, question, reader, readings, spoiled};
+use crate::{askings, breaks, formula, judge, misasked, models, naming, pictures, question, reader, readings, spoiled};
 
-/// A fresh case: of every eight four are of the mixture above, two about formulas, one about measurements, and one
-/// about atoms that are named or not.
+/// A fresh case: of every nine four are of the mixture above, two about formulas, one about measurements, one about
+/// atoms that are named or not, and one about pictures.
 pub fn mixed(seed: u64, number: usize) -> Vec<u8> {
-    let turn = number / 8;
-    match number % 8 {
+    let turn = number / 9;
+    match number % 9 {
         place @ 0..=3 => case(Kinds::All, seed, turn * 4 + place),
         place @ 4..=5 => formula::mixture::case(Kinds::All, seed, turn * 2 + place - 4),
         6 => readings::mixture::case(seed, turn),
-        _ => naming::mixture::case(seed, turn),
+        7 => naming::mixture::case(seed, turn),
+        _ => pictures::mixture::fresh(seed, turn),
     }
 }
 

@@ -1,6 +1,7 @@
 //! An independent second program: it makes cases, knows their answers by brute force, and compares.
 #![forbid(unsafe_code)]
 
+mod agreeing;
 mod along;
 mod answers;
 mod askings;
@@ -18,6 +19,7 @@ mod model;
 mod models;
 mod naming;
 mod paths;
+mod pictures;
 mod question;
 mod random;
 mod reader;
@@ -35,15 +37,17 @@ use std::process::ExitCode;
 
 const USAGE: &str = "compare make COUNT SEED INPUT_FILE ANSWER_FILE
     writes COUNT fresh cases and their answers
-compare store COUNT FORMULAS READINGS KINDS NAMING SEED INPUT_FILE ANSWER_FILE [MODEL_FILE ..]
+compare store COUNT FORMULAS READINGS KINDS NAMING PICTURES SEED INPUT_FILE ANSWER_FILE [MODEL_FILE ..]
     writes the model files' cases, COUNT of models and paths, the listed ones of formulas, FORMULAS random ones,
     the listed ones of measurements, READINGS random ones, all of the kinds up to 6; then the model files' with
     a kind above 6, the listed ones of such kinds, KINDS random ones over all kinds; then the listed ones of atoms
-    that are named or not, NAMING random ones
+    that are named or not, NAMING random ones; then the listed ones of pictures, PICTURES random ones
 compare explain INPUT_FILE N
     prints case N (from 0) and its expected answer
-compare differ INPUT_FILE EXPECTED GOT
-    tells the first case whose answers differ
+compare agree INPUT_FILE GOT
+    holds what a program answered to the cases, and tells the first whose answer is not as expected
+compare shown INPUT_FILE OUTPUT_FILE
+    writes the cases that ask for a picture alone, each with its picture shown
 compare answer
     reads frames on standard input and writes the expected answers on standard output
 compare statistics COUNT SEED
@@ -56,11 +60,12 @@ fn main() -> ExitCode {
     let words: Vec<&str> = words.iter().map(String::as_str).collect();
     let done = match words[..] {
         ["make", count, seed, input, answers] => make(count, seed, input, answers),
-        ["store", count, formulas, readings, kinds, naming, seed, input, answers, ref models @ ..] => {
-            store([count, formulas, readings, kinds, naming], seed, [input, answers], models)
+        ["store", count, formulas, readings, kinds, naming, pictures, seed, input, answers, ref models @ ..] => {
+            store([count, formulas, readings, kinds, naming, pictures], seed, [input, answers], models)
         }
         ["explain", input, number] => explain(input, number),
-        ["differ", input, expected, got] => differ(input, expected, got),
+        ["agree", input, got] => agree(input, got),
+        ["shown", input, output] => shown(input, output),
         ["answer"] => answer(),
         ["statistics", count, seed] => tell_statistics(count, seed),
         ["selftest"] => Ok(selftest::run()),
@@ -90,10 +95,11 @@ fn make(count: &str, seed: &str, input: &str, answers: &str) -> Result<ExitCode,
 }
 
 /// What is added comes behind what was there, so that no stored case moves.
-fn store(counts: [&str; 5], seed: &str, files: [&str; 2], models: &[&str]) -> Result<ExitCode, String> {
+fn store(counts: [&str; 6], seed: &str, files: [&str; 2], models: &[&str]) -> Result<ExitCode, String> {
     let (count, formulas): (usize, usize) = (number(counts[0])?, number(counts[1])?);
     let (readings, kinds): (usize, usize) = (number(counts[2])?, number(counts[3])?);
-    let (naming, seed): (usize, u64) = (number(counts[4])?, number(seed)?);
+    let (naming, pictures): (usize, usize) = (number(counts[4])?, number(counts[5])?);
+    let seed: u64 = number(seed)?;
     let models = models.iter().map(|file| load_model(file)).collect::<Result<Vec<_>, String>>()?;
     let (mut cases, since): (Vec<_>, Vec<_>) = models.into_iter().partition(|case| of_first_kinds(case));
     cases.extend((0..count).map(|place| generate::case(Kinds::First, seed, place)));
@@ -107,6 +113,8 @@ fn store(counts: [&str; 5], seed: &str, files: [&str; 2], models: &[&str]) -> Re
     cases.extend((0..kinds).map(|place| wider::mixture::case(seed, place)));
     cases.extend(naming::listed::cases());
     cases.extend((0..naming).map(|place| naming::mixture::case(seed, place)));
+    cases.extend(pictures::listed::cases());
+    cases.extend((0..pictures).map(|place| pictures::mixture::case(seed, place)));
     write_cases(&cases, files[0], files[1])
 }
 
@@ -148,21 +156,26 @@ fn explain(input: &str, place: &str) -> Result<ExitCode, String> {
     Ok(ExitCode::SUCCESS)
 }
 
-fn differ(input: &str, expected: &str, got: &str) -> Result<ExitCode, String> {
-    let (input, expected, got) = (load(input)?, load(expected)?, load(got)?);
-    let cases = frames::cases(&input)?;
-    let (expected, got) = (frames::answers(&expected), frames::answers(&got));
-    if expected.len() != cases.len() {
-        return Err(format!("{} cases, but {} expected answers", cases.len(), expected.len()));
-    }
-    let places = frames::differing(cases.len(), &expected, &got);
+fn agree(input: &str, got: &str) -> Result<ExitCode, String> {
+    let (input, got) = (load(input)?, load(got)?);
+    let (cases, got) = (frames::cases(&input)?, frames::answers(&got));
+    let places = agreeing::differing(&cases, &got);
     if let Some(&first) = places.first() {
         let text =
             |found: &[&[u8]]| found.get(first).map_or(String::from("(nothing)\n"), |t| frames::readable(t, 4_000));
-        show(&format!("case {first}:\n{}expected:\n{}got:\n{}", text(&cases), text(&expected), text(&got)));
+        let expected = cases.get(first).map_or(String::from("(nothing)\n"), |case| answers::answer(case) + ".\n");
+        let expected = frames::readable(expected.as_bytes(), 4_000);
+        show(&format!("case {first}:\n{}expected:\n{expected}got:\n{}", text(&cases), text(&got)));
     }
     show(&format!("{} cases, {} differences\n", cases.len(), places.len()));
     Ok(ExitCode::from(!places.is_empty() as u8))
+}
+
+fn shown(input: &str, output: &str) -> Result<ExitCode, String> {
+    let input = load(input)?;
+    let cases = frames::cases(&input)?.into_iter().filter_map(pictures::shown::of_word);
+    save(output, &cases.flat_map(|case| frames::frame(&case)).collect::<Vec<u8>>())?;
+    Ok(ExitCode::SUCCESS)
 }
 
 fn answer() -> Result<ExitCode, String> {

@@ -1,5 +1,6 @@
 //! The rules' worked cases 1 to 13 and a few checks of this program itself.
 
+use crate::agreeing;
 use crate::answers;
 use crate::graphs;
 use crate::judge::{judge, judge_whole, Judged};
@@ -8,7 +9,7 @@ use crate::model::{letters, Model};
 use crate::models;
 use crate::question::{self, Asking, Question};
 use crate::random::Random;
-use crate::{formula, frames, generate, naming, reader, readings, wider};
+use crate::{formula, frames, generate, naming, pictures, reader, readings, wider};
 use std::process::ExitCode;
 
 pub fn run() -> ExitCode {
@@ -23,10 +24,12 @@ pub fn run() -> ExitCode {
     order_of_refusals();
     completions();
     framing();
+    agreement();
     formula::selftest();
     readings::selftest();
     wider::selftest();
     naming::selftest();
+    pictures::selftest();
     println!("selftest ok");
     ExitCode::SUCCESS
 }
@@ -225,9 +228,18 @@ fn framing() {
     let made: Vec<Vec<u8>> = (0..200).map(|number| generate::mixed(3, number)).collect();
     let bytes: Vec<u8> = made.iter().flat_map(|case| frames::frame(case)).collect();
     assert_eq!(frames::cases(&bytes).unwrap(), made);
-    let (whole, other) = (b"yes\n.\nnone\n.\n", b"yes\n.\nend\n.\n");
-    let (whole, other) = (frames::answers(whole), frames::answers(other));
-    assert_eq!(frames::differing(2, &whole, &other), [1]);
-    assert_eq!(frames::differing(2, &whole, &whole[..1]), [1]);
-    assert!(frames::differing(2, &whole, &whole).is_empty());
+}
+
+/// Each answer is held to its case, one that is missing or too many differs, and a shown picture may be any.
+fn agreement() {
+    let shown = b"S\n2,0,2\n0,0,0,1,1,0\n2,2\n0,0\n";
+    let cases = [&question::write(&night_7(), &Asking::Next(vec![0, 2, 3]))[..], shown];
+    let differing = |text: &str| agreeing::differing(&cases, &frames::answers(text.as_bytes()));
+    assert!(differing("end\n.\npath=0\nback=0\n.\n").is_empty());
+    assert!(differing("end\n.\npath=0,1\nback=0\n.\n").is_empty());
+    assert_eq!(differing("none\n.\npath=0,1\nback=1\n.\n"), [0, 1]);
+    assert_eq!(differing("end\n.\npicture\n.\n"), [1]);
+    assert_eq!(differing("end\n.\n"), [1]);
+    assert_eq!(differing("end\n.\npath=0\nback=0\n"), [1]);
+    assert_eq!(differing("end\n.\npath=0\nback=0\n.\nend\n.\n"), [2]);
 }

@@ -32,7 +32,7 @@ pub fn print(count: usize, seed: u64) {
     );
     println!("accepted models judged by listing every walk too: {}", counts.walked);
     println!("their nodes by kind: {}", line(&counts.kinds));
-    for kind in ['M', 'F', 'N', 'C', 'R', 'P', 'K', 'Q', 'V', 'D', 'L'] {
+    for kind in ['M', 'F', 'N', 'C', 'R', 'P', 'K', 'Q', 'V', 'D', 'L', 'W', 'S', 'X'] {
         let of_kind: BTreeMap<String, usize> =
             counts.answers.iter().filter(|((k, _), _)| *k == kind).map(|((_, a), n)| (a.clone(), *n)).collect();
         println!("answers to {kind}: {}", line(&of_kind));
@@ -80,6 +80,7 @@ fn name(kind: char, answer: &str) -> String {
         (None, 'F') if paths == 1 => String::from("one path:"),
         (None, 'F') if paths > 1 => String::from("several paths:"),
         (None, 'N') if paths == 1 => String::from("a path:"),
+        (None, 'W' | 'S') if answer.starts_with("picture\n") => String::from("a picture:"),
         _ => format!("{}:", answer.trim_end()),
     }
 }
