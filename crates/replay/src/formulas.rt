@@ -21,7 +21,7 @@ ghost use Prim.Native.Nat.{_≤_};
 const TEXT_SPACE: usize = 4200;
 
 // So many entries, or as many as a space has.
-fn least(room: usize, most: usize) -> usize
+pub(crate) fn least(room: usize, most: usize) -> usize
     ensures { λ r. ⌜ r ≤ most ⌝ }
 {
     if room < most { room } else { most }

@@ -12,12 +12,16 @@
 //   V   a voltage gate and a reading, by their bits: its label
 //   D   a delay gate and two counters, by their bits: the delay and its label
 //   L   lines of the label desk: a label for each
+//   W   a path question without a level, with a start and a room: whether there is a picture, and Check's word on it
+//   S   the same: the picture
+//   X   a path question without a level, with a list and its ending: whether this is a picture
 //
 // Behind each answer stands a line with a dot.
 mod asking;
 mod formulas;
 mod measures;
 mod numbers;
+mod reasons;
 mod telling;
 
 use answer::MOST_LINE;
@@ -58,6 +62,7 @@ fn answer(body: &[u8]) {
         b'V' => measures::voltage(body),
         b'D' => measures::ticks(body),
         b'L' => measures::lines(body),
+        b'W' | b'S' | b'X' => reasons::question(body, kind),
         _ => asking::question(body, kind),
     }
     io::write_all(STDOUT_FILENO, b".\n");

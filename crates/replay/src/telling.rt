@@ -1,4 +1,4 @@
-// Answers of the path calls, of the formula calls and of the label calls, written out.
+// Answers of the path calls, of the formula calls, of the label calls and of the picture calls, written out.
 use crate::asking::bytes;
 use answer::MOST_LINE;
 use answer::MOST_PATH_LINE;
@@ -97,7 +97,13 @@ pub(crate) fn checked(
     level: u8,
     list: &[u16],
 ) {
-    match paths::check(states, transitions, left, right, level, list) {
+    let answer = paths::check(states, transitions, left, right, level, list);
+    word(answer);
+}
+
+// What a check says of a list.
+pub(crate) fn word(answer: CheckAnswer) {
+    match answer {
         CheckAnswer::Yes => {
             io::write_all(STDOUT_FILENO, b"yes\n");
         }
@@ -108,8 +114,8 @@ pub(crate) fn checked(
     }
 }
 
-// The numbers of the nodes that were read, as a path's line has its states behind five bytes.
-pub(crate) fn nodes(list: &[u16]) {
+// The numbers of a list behind a name, as a path's line has its states behind five bytes.
+pub(crate) fn named(name: &[u8], list: &[u16]) {
     let mut line = [0u8; MOST_PATH_LINE];
     let Written::Bytes(n) = answer::write_path(list, &mut line) else {
         return;
@@ -120,9 +126,14 @@ pub(crate) fn nodes(list: &[u16]) {
     if line.len() < n {
         return;
     }
-    number(0);
-    io::write_all(STDOUT_FILENO, b"nodes=");
+    io::write_all(STDOUT_FILENO, name);
     io::write_all(STDOUT_FILENO, &line[5..n]);
+}
+
+// The numbers of the nodes that were read.
+pub(crate) fn nodes(list: &[u16]) {
+    number(0);
+    named(b"nodes=", list);
 }
 
 // The text that was printed at the front of a space.
