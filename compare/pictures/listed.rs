@@ -4,6 +4,7 @@
 use super::asking::{tables, write, Asking, Ending};
 use super::{edges, refused};
 use crate::question::Question;
+use Ending::{Back, Falls};
 
 pub fn cases() -> Vec<Vec<u8>> {
     [by_hand(), every_row(), rooms(), short_lists(), lists(), refused::listed(), edges::listed()].concat()
@@ -112,64 +113,60 @@ fn short_lists() -> Vec<Vec<u8>> {
     lists.flat_map(|list| endings.clone().map(|ending| check(&question, &list, ending)).collect::<Vec<_>>()).collect()
 }
 
-use Ending::{Back, Falls};
-
-/// A list and its ending; the comment says what is wrong, if anything is.
+/// A graph with its rows, a list and its ending: pictures, and lists that are wrong in one way.
 #[rustfmt::skip]
-fn on_graphs() -> Vec<(Question, Vec<u16>, Ending)> {
-    let falling = || drawn(&CHAIN, "TTTF", "FFFF");
-    let ring = || drawn(&RING, "TTTT", "FFFF");
-    let into_loop = || drawn(&LOOP, "TTTT", "FFFF");
-    vec![
-        (falling(), vec![0, 1, 2, 3], Falls),
-        (falling(), vec![0, 1, 2, 3], Back(3)),
-        (falling(), vec![3], Falls),
-        (falling(), vec![2, 3, 3, 3, 3, 3, 3], Falls),
-        (falling(), vec![2, 3, 3, 3, 3, 3, 3], Back(2)),
-        (falling(), vec![], Falls), // empty
-        (falling(), vec![], Back(0)),
-        (falling(), vec![0, 1, 2], Falls), // the left part holds
-        (falling(), vec![0, 1, 2, 3], Back(2)), // no transition to that place
-        (falling(), vec![0, 1, 2, 3], Back(4)), // no place
-        (falling(), vec![0, 1, 2, 3], Back(65_535)),
-        (falling(), vec![0, 2, 3], Falls), // not joined
-        (falling(), vec![0, 0, 1, 2, 3], Falls),
-        (falling(), vec![3, 2], Back(0)),
-        (falling(), vec![4], Falls), // no state
-        (falling(), vec![0, 1, 2, 4], Falls),
-        (falling(), vec![65_535, 1, 2, 3], Falls),
-        (falling(), vec![0, 65_535, 2, 3], Back(3)),
-        (drawn(&CHAIN, "TTTU", "FFFF"), vec![0, 1, 2, 3], Falls), // the left part unknown
-        (drawn(&CHAIN, "TTTU", "FFFF"), vec![0, 1, 2, 3], Back(3)),
-        (drawn(&CHAIN, "FFFF", "FFFF"), vec![0, 1, 2, 3], Falls),
-        (drawn(&CHAIN, "TTTF", "UFFF"), vec![0, 1, 2, 3], Falls), // the right part unknown at the first, and so on
-        (drawn(&CHAIN, "TTTF", "FUFF"), vec![0, 1, 2, 3], Falls),
-        (drawn(&CHAIN, "TTTF", "FFFU"), vec![0, 1, 2, 3], Falls),
-        (drawn(&CHAIN, "TTTF", "FFFU"), vec![0, 1, 2, 3], Back(3)),
-        (drawn(&CHAIN, "TTTF", "FFTF"), vec![0, 1, 2, 3], Falls), // the right part true
-        (drawn(&CHAIN, "TTTF", "TFFF"), vec![1, 2, 3], Falls), // another start, and a picture of it
-        (ring(), vec![0, 1, 2, 3], Back(0)),
-        (ring(), vec![2, 3, 0, 1], Back(0)),
-        (ring(), vec![0, 1, 2, 3], Falls),
-        (ring(), vec![0, 1, 2, 3], Back(1)),
-        (ring(), vec![0, 1, 2], Back(0)),
-        (ring(), vec![0, 1, 2, 3, 0], Back(1)), // longer than there are states
-        (ring(), vec![0, 1, 2, 3, 0, 1, 2, 3, 0], Back(5)),
-        (ring(), vec![0, 1, 2, 3, 0, 1, 2, 3, 0], Back(4)),
-        (ring(), vec![0, 1, 2, 3, 0, 1, 2, 3, 0], Back(9)),
-        (drawn(&RING, "TTTT", "FFFU"), vec![0, 1, 2, 3], Back(0)),
-        (into_loop(), vec![0, 1, 2, 3], Back(1)),
-        (into_loop(), vec![0, 1, 2, 3], Back(0)),
-        (into_loop(), vec![0, 1, 2, 3, 1], Back(2)),
-        (into_loop(), vec![3, 1, 2], Back(0)),
-        (drawn(&TWO_WAYS, "TTTTF", "FUFFF"), vec![0, 2, 3, 4], Falls),
-        (drawn(&TWO_WAYS, "TTTTF", "FUFFF"), vec![0, 1, 4], Falls),
-        (drawn(&ALONE, "T", "F"), vec![0], Back(0)),
-        (drawn(&ALONE, "F", "F"), vec![0], Falls),
-        (drawn(&ALONE, "U", "U"), vec![0], Back(0)),
-    ]
-}
+const LISTS: [(&[u16], &str, &str, &[u16], Ending); 46] = [
+    (&CHAIN, "TTTF", "FFFF", &[0, 1, 2, 3], Falls),
+    (&CHAIN, "TTTF", "FFFF", &[0, 1, 2, 3], Back(3)),
+    (&CHAIN, "TTTF", "FFFF", &[3], Falls),
+    (&CHAIN, "TTTF", "FFFF", &[2, 3, 3, 3, 3, 3, 3], Falls),
+    (&CHAIN, "TTTF", "FFFF", &[2, 3, 3, 3, 3, 3, 3], Back(2)),
+    (&CHAIN, "TTTF", "FFFF", &[], Falls), // empty
+    (&CHAIN, "TTTF", "FFFF", &[], Back(0)),
+    (&CHAIN, "TTTF", "FFFF", &[0, 1, 2], Falls), // the left part holds
+    (&CHAIN, "TTTF", "FFFF", &[0, 1, 2, 3], Back(2)), // no transition to that place
+    (&CHAIN, "TTTF", "FFFF", &[0, 1, 2, 3], Back(4)), // no place
+    (&CHAIN, "TTTF", "FFFF", &[0, 1, 2, 3], Back(65_535)),
+    (&CHAIN, "TTTF", "FFFF", &[0, 2, 3], Falls), // not joined
+    (&CHAIN, "TTTF", "FFFF", &[0, 0, 1, 2, 3], Falls),
+    (&CHAIN, "TTTF", "FFFF", &[3, 2], Back(0)),
+    (&CHAIN, "TTTF", "FFFF", &[4], Falls), // no state
+    (&CHAIN, "TTTF", "FFFF", &[0, 1, 2, 4], Falls),
+    (&CHAIN, "TTTF", "FFFF", &[65_535, 1, 2, 3], Falls),
+    (&CHAIN, "TTTF", "FFFF", &[0, 65_535, 2, 3], Back(3)),
+    (&CHAIN, "TTTU", "FFFF", &[0, 1, 2, 3], Falls), // the left part unknown
+    (&CHAIN, "TTTU", "FFFF", &[0, 1, 2, 3], Back(3)),
+    (&CHAIN, "FFFF", "FFFF", &[0, 1, 2, 3], Falls),
+    (&CHAIN, "TTTF", "UFFF", &[0, 1, 2, 3], Falls), // the right part unknown at the first, and so on
+    (&CHAIN, "TTTF", "FUFF", &[0, 1, 2, 3], Falls),
+    (&CHAIN, "TTTF", "FFFU", &[0, 1, 2, 3], Falls),
+    (&CHAIN, "TTTF", "FFFU", &[0, 1, 2, 3], Back(3)),
+    (&CHAIN, "TTTF", "FFTF", &[0, 1, 2, 3], Falls), // the right part true
+    (&CHAIN, "TTTF", "TFFF", &[1, 2, 3], Falls), // another start, and a picture of it
+    (&RING, "TTTT", "FFFF", &[0, 1, 2, 3], Back(0)),
+    (&RING, "TTTT", "FFFF", &[2, 3, 0, 1], Back(0)),
+    (&RING, "TTTT", "FFFF", &[0, 1, 2, 3], Falls),
+    (&RING, "TTTT", "FFFF", &[0, 1, 2, 3], Back(1)),
+    (&RING, "TTTT", "FFFF", &[0, 1, 2], Back(0)),
+    (&RING, "TTTT", "FFFF", &[0, 1, 2, 3, 0], Back(1)), // longer than there are states
+    (&RING, "TTTT", "FFFF", &[0, 1, 2, 3, 0, 1, 2, 3, 0], Back(5)),
+    (&RING, "TTTT", "FFFF", &[0, 1, 2, 3, 0, 1, 2, 3, 0], Back(4)),
+    (&RING, "TTTT", "FFFF", &[0, 1, 2, 3, 0, 1, 2, 3, 0], Back(9)),
+    (&RING, "TTTT", "FFFU", &[0, 1, 2, 3], Back(0)),
+    (&LOOP, "TTTT", "FFFF", &[0, 1, 2, 3], Back(1)),
+    (&LOOP, "TTTT", "FFFF", &[0, 1, 2, 3], Back(0)),
+    (&LOOP, "TTTT", "FFFF", &[0, 1, 2, 3, 1], Back(2)),
+    (&LOOP, "TTTT", "FFFF", &[3, 1, 2], Back(0)),
+    (&TWO_WAYS, "TTTTF", "FUFFF", &[0, 2, 3, 4], Falls),
+    (&TWO_WAYS, "TTTTF", "FUFFF", &[0, 1, 4], Falls),
+    (&ALONE, "T", "F", &[0], Back(0)),
+    (&ALONE, "F", "F", &[0], Falls),
+    (&ALONE, "U", "U", &[0], Back(0)),
+];
 
 fn lists() -> Vec<Vec<u8>> {
-    on_graphs().iter().map(|(question, list, ending)| check(question, list, *ending)).collect()
+    let asked = |(transitions, left, right, list, ending): (&[u16], &str, &str, &[u16], Ending)| {
+        check(&drawn(transitions, left, right), list, ending)
+    };
+    LISTS.into_iter().map(asked).collect()
 }
