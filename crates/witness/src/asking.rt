@@ -1,7 +1,9 @@
-// The question put to a model: its text is judged, by its own nodes or by a formula's, and the rows are those of the two parts of the
-// node that is asked about.
+// The question put to a model: its text is judged, by its own nodes or by a formula's, and the rows come from the parts of the node that is
+// asked about.
+use crate::reasons::Form;
+use crate::reasons::Reason;
+use crate::reasons::Rows;
 use crate::table;
-use crate::table::Parts;
 use crate::telling;
 use crate::words;
 use crate::words::Number;
@@ -16,7 +18,7 @@ use values::limits::MOST_TRANSITION_NUMBERS;
 use values::limits::MOST_TRANSITIONS;
 use values::limits::MOST_VERDICTS;
 
-// The row of a node; where the verdict space has none, an empty list, which First refuses.
+// The row of a node; where the verdict space has none, an empty list, which First and a picture refuse.
 fn row(states: usize, verdicts: &[u8], node: usize) -> &[u8] {
     if MOST_STATES < states {
         return &verdicts[..0];
@@ -53,6 +55,65 @@ fn put_truth(states: usize, space: &mut [u8]) {
     }
 }
 
+// With true on the left.
+fn tell_right(states: usize, transitions: &[u16], right: &[u8], form: Form, wanted: Wanted) {
+    let mut truth = [0u8; MOST_STATES];
+    put_truth(states, &mut truth);
+    telling::tell(
+        states,
+        transitions,
+        row(states, &truth, 0),
+        right,
+        form,
+        wanted,
+    );
+}
+
+// A row that has no opposite is none, and a verdict space has no such row: nothing is told of one.
+fn tell_opposite(states: usize, transitions: &[u16], part: &[u8], form: Form, wanted: Wanted) {
+    let mut opposite = [0u8; MOST_STATES];
+    if kripke::rows::opposite_row(states, part, &mut opposite) {
+        tell_right(states, transitions, row(states, &opposite, 0), form, wanted);
+    }
+}
+
+// The two rows that the reason is found with, and what is told of them.
+fn tell(states: usize, transitions: &[u16], verdicts: &[u8], reason: Reason, wanted: Wanted) {
+    let Reason::Is(form, rows) = reason else {
+        return;
+    };
+    match rows {
+        Rows::Own(left, right) => {
+            telling::tell(
+                states,
+                transitions,
+                row(states, verdicts, left),
+                row(states, verdicts, right),
+                form,
+                wanted,
+            );
+        }
+        Rows::Part(part) => {
+            tell_right(
+                states,
+                transitions,
+                row(states, verdicts, part),
+                form,
+                wanted,
+            );
+        }
+        Rows::Opposite(part) => {
+            tell_opposite(
+                states,
+                transitions,
+                row(states, verdicts, part),
+                form,
+                wanted,
+            );
+        }
+    }
+}
+
 // The model that was judged: its text is read once more, for the transitions and the nodes, in whose place a formula's come.
 fn ask(text: &[u8], word: &[u8], about: Number, verdicts: &[u8], wanted: Wanted) {
     let mut labels = [0u8; MOST_LABELS];
@@ -75,23 +136,9 @@ fn ask(text: &[u8], word: &[u8], about: Number, verdicts: &[u8], wanted: Wanted)
         return;
     };
     let edges = transitions_read(&transitions, e);
-    match table::parts_asked(about, word, n, &mut nodes) {
-        Parts::Until(left, right) => {
-            telling::list(
-                s,
-                edges,
-                row(s, verdicts, left),
-                row(s, verdicts, right),
-                wanted,
-            );
-        }
-        Parts::Eventually(part) => {
-            let mut truth = [0u8; MOST_STATES];
-            put_truth(s, &mut truth);
-            telling::list(s, edges, row(s, &truth, 0), row(s, verdicts, part), wanted);
-        }
-        Parts::None => {}
-    }
+    let claim = wanted.claim;
+    let reason = table::reason_asked(about, word, n, &mut nodes, claim);
+    tell(s, edges, verdicts, reason, wanted);
 }
 
 fn judge(about: Number, text: &[u8], word: &[u8], verdicts: &mut [u8]) -> Sheet {

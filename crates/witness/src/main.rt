@@ -1,10 +1,13 @@
-// One model's text on standard input, a question in the arguments: the shortest witnesses of an exists-until from a state, one a line.
+// One model's text on standard input, a question in the arguments: why a node or a formula is true, possible or false at a state, as paths,
+// one a line, or as a picture.
 //
 //   words     the question, from the arguments
 //   asking    the question put to a model that was judged
 //   table     the node that is asked about, of the model or of a formula
+//   reasons   the reason that its kind has for what is claimed
 //   telling   line after line, written out as it comes
 mod asking;
+mod reasons;
 mod table;
 mod telling;
 mod words;
@@ -19,7 +22,7 @@ fn main() {
     let Question::Asked(wanted) = words::asked() else {
         io::write_all(
             STDOUT_FILENO,
-            b"no question: give a node or a formula, a state, true or possible, and at most how many paths if not all\n",
+            b"no question: give a node or a formula, a state, true, possible or false, and at most how many paths if not all\n",
         );
         return;
     };

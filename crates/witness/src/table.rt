@@ -1,21 +1,11 @@
 // The node that is asked about, in the table that was judged: the model's nodes, or those of a formula, whose last one is the whole.
+use crate::reasons;
+use crate::reasons::Reason;
 use crate::telling;
+use crate::words::Claim;
 use crate::words::Number;
 use formula::Read;
 use libc::STDOUT_FILENO;
-
-// The kinds that ask for a path: an exists-until, and EF, which is one with true on its left.
-const EXISTS_UNTIL: u16 = 5;
-
-const EVENTUALLY: u16 = 10;
-
-// The two parts of an exists-until, by their nodes.
-pub(crate) enum Parts {
-    Until(usize, usize),
-    // Only the right one: the left one is true everywhere.
-    Eventually(usize),
-    None,
-}
 
 // Whether a model of n nodes has this one.
 fn own(node: usize, n: usize) -> Number {
@@ -50,43 +40,47 @@ fn place(about: Number, word: &[u8], n: usize, nodes: &mut [u16]) -> Number {
     }
 }
 
-fn say_no_path(about: Number) {
-    match about {
-        Number::Is(_) => {
-            io::write_all(
-                STDOUT_FILENO,
-                b"no question: this node is no exists-until and no EF\n",
-            );
-        }
-        Number::None => {
-            io::write_all(
-                STDOUT_FILENO,
-                b"no question: this formula is no exists-until and no EF\n",
-            );
+// Where the kind has no reason for the claim, that is said.
+fn or_said(reason: Reason, about: Number) -> Reason {
+    if let Reason::None = reason {
+        match about {
+            Number::Is(_) => {
+                io::write_all(
+                    STDOUT_FILENO,
+                    b"no question: this node has no such reason\n",
+                );
+            }
+            Number::None => {
+                io::write_all(
+                    STDOUT_FILENO,
+                    b"no question: this formula has no such reason\n",
+                );
+            }
         }
     }
+    reason
 }
 
 fn wide(number: u16) -> usize {
     number as usize
 }
 
-// The parts of the node that is asked about, or why there are none said.
-pub(crate) fn parts_asked(about: Number, word: &[u8], n: usize, nodes: &mut [u16]) -> Parts {
+// The reason for a claim about the node that is asked about, or why there is none said.
+pub(crate) fn reason_asked(
+    about: Number,
+    word: &[u8],
+    n: usize,
+    nodes: &mut [u16],
+    claim: Claim,
+) -> Reason {
     let Number::Is(node) = place(about, word, n, nodes) else {
-        return Parts::None;
+        return Reason::None;
     };
     if nodes.len() / 3 <= node {
-        return Parts::None;
+        return Reason::None;
     }
     let at = 3 * node;
     let left = wide(nodes[at + 1]);
-    match nodes[at] {
-        EXISTS_UNTIL => Parts::Until(left, wide(nodes[at + 2])),
-        EVENTUALLY => Parts::Eventually(left),
-        _ => {
-            say_no_path(about);
-            Parts::None
-        }
-    }
+    let right = wide(nodes[at + 2]);
+    or_said(reasons::reason_for(claim, nodes[at], left, right), about)
 }

@@ -1,4 +1,5 @@
 // Lines written out as they come.
+use crate::reasons::Form;
 use crate::words::Wanted;
 use answer::MOST_LINE;
 use answer::MOST_PATH_LINE;
@@ -6,6 +7,8 @@ use answer::Written;
 use libc::STDOUT_FILENO;
 use listing::Call;
 use listing::Told;
+use pictures::Ending;
+use pictures::PictureAnswer;
 use values::limits::MOST_STATES;
 
 // The bytes that a writer put at the front of a line.
@@ -26,7 +29,7 @@ pub(crate) fn refused(number: u8) {
 }
 
 // Path after path, as many as asked for, and how the listing ends.
-pub(crate) fn list(states: usize, transitions: &[u16], left: &[u8], right: &[u8], wanted: Wanted) {
+fn list(states: usize, transitions: &[u16], left: &[u8], right: &[u8], level: u8, wanted: Wanted) {
     let mut space = [0u16; MOST_STATES];
     let mut line = [0u8; MOST_PATH_LINE];
     let mut call = Call::First {
@@ -40,7 +43,7 @@ pub(crate) fn list(states: usize, transitions: &[u16], left: &[u8], right: &[u8]
             transitions,
             left,
             right,
-            wanted.level,
+            level,
             rest,
             call,
             &mut space,
@@ -54,5 +57,66 @@ pub(crate) fn list(states: usize, transitions: &[u16], left: &[u8], right: &[u8]
         };
         call = Call::Next(n);
         rest -= 1;
+    }
+}
+
+// The first n entries of a path space.
+fn tell_list(n: usize, space: &[u16]) {
+    if space.len() < n {
+        return;
+    }
+    let mut line = [0u8; MOST_PATH_LINE];
+    let written = answer::write_path(&space[..n], &mut line);
+    put(written, &line);
+}
+
+fn tell_ending(ending: Ending) {
+    match ending {
+        Ending::Falls => {
+            io::write_all(STDOUT_FILENO, b"falls\n");
+        }
+        Ending::Back(place) => {
+            io::write_all(STDOUT_FILENO, b"back=");
+            io::print_decimal(STDOUT_FILENO, place as u64);
+            io::write_all(STDOUT_FILENO, b"\n");
+        }
+    }
+}
+
+// A picture counts as one list: where none is to be told, only that there is one.
+fn tell_picture(n: usize, ending: Ending, space: &[u16], most: usize) {
+    if most == 0 {
+        io::write_all(STDOUT_FILENO, b"more\n");
+        return;
+    }
+    tell_list(n, space);
+    tell_ending(ending);
+}
+
+// One picture, and how it ends.
+fn picture(states: usize, transitions: &[u16], left: &[u8], right: &[u8], wanted: Wanted) {
+    let mut space = [0u16; MOST_STATES];
+    let answer = pictures::picture(states, transitions, left, right, wanted.start, &mut space);
+    match answer {
+        PictureAnswer::Picture(n, ending) => tell_picture(n, ending, &space, wanted.most),
+        PictureAnswer::None => {
+            io::write_all(STDOUT_FILENO, b"none\n");
+        }
+        PictureAnswer::Refused(number) => refused(number),
+    }
+}
+
+// A reason, by its two rows.
+pub(crate) fn tell(
+    states: usize,
+    transitions: &[u16],
+    left: &[u8],
+    right: &[u8],
+    form: Form,
+    wanted: Wanted,
+) {
+    match form {
+        Form::Paths(level) => list(states, transitions, left, right, level, wanted),
+        Form::Picture => picture(states, transitions, left, right, wanted),
     }
 }

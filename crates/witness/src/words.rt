@@ -1,9 +1,17 @@
-// The arguments: a node or a formula, a state, the level as a word, and at most how many paths.
+// The arguments: a node or a formula, a state, what is claimed of it there, and at most how many paths.
+
+// What is claimed of the node or the formula, and a reason is wanted for.
+pub(crate) enum Claim {
+    True,
+    // True or unknown.
+    Possible,
+    False,
+}
 
 // What is wanted of the node or the formula, which is the first word.
 pub(crate) struct Wanted {
     pub(crate) start: usize,
-    pub(crate) level: u8,
+    pub(crate) claim: Claim,
     pub(crate) most: usize,
 }
 
@@ -16,6 +24,12 @@ pub(crate) enum Question {
 // A word read as a number.
 pub(crate) enum Number {
     Is(usize),
+    None,
+}
+
+// A word read as a claim.
+enum Claimed {
+    Is(Claim),
     None,
 }
 
@@ -77,17 +91,19 @@ fn is_word(word: &[u8], name: &[u8]) -> bool {
     true
 }
 
-// The level that a word names, 0 where it names none.
-fn level_at(i: usize) -> u8 {
+fn claim_at(i: usize) -> Claimed {
     let mut word = [0u8; LONGEST];
     let n = os::arg(i, &mut word);
     if is_word(&word[..n], b"true") {
-        return 2;
+        return Claimed::Is(Claim::True);
     }
     if is_word(&word[..n], b"possible") {
-        return 1;
+        return Claimed::Is(Claim::Possible);
     }
-    0
+    if is_word(&word[..n], b"false") {
+        return Claimed::Is(Claim::False);
+    }
+    Claimed::None
 }
 
 // The last word, where there is one: without it every path is told.
@@ -109,9 +125,8 @@ pub(crate) fn asked() -> Question {
     let Number::Is(start) = number_at(2) else {
         return Question::Wrong;
     };
-    let level = level_at(3);
-    if level == 0 {
+    let Claimed::Is(claim) = claim_at(3) else {
         return Question::Wrong;
-    }
-    Question::Asked(Wanted { start, level, most })
+    };
+    Question::Asked(Wanted { start, claim, most })
 }
