@@ -1,6 +1,6 @@
 # What a refusal's number was in this model: reads the model's text as far as its form holds and prints one line, or none where nothing is
 # found. It serves the messages of the scripts alone; what is judged or refused, the programs say. formula.awk is read beside it.
-# Set before: number, ended (1 where the text ends in a line feed), size (bytes), most_.. (the limits); node or start for a path question;
+# Set before: number, ended (1 where the text ends in a line feed), size (bytes), most_.. (the limits); node and claim, or start, for ./witness;
 # by_formula where a formula was asked, which stands in the file that the environment has as `asked`.
 function is_number(s) { return s ~ /^(0|[1-9][0-9]*)$/ && length(s) <= 5 && s + 0 <= 65535 }
 function are_numbers(s, n, part, i) {
@@ -65,6 +65,18 @@ function meet_node(value, part, this, i, use) {
     nodes++
 }
 
+# what ./witness has a reason for, by the kind of a node
+function claims_of(kind) {
+    if (kind == 5 || kind == 10) return "true or possible"
+    if (kind == 6 || kind == 11 || kind == 13) return "false"
+    return kind == 12 ? "true" : ""
+}
+function no_reason(node, claim, i, listed, own) {
+    for (i = 0; i < nodes; i++) if (index(claims_of(kind[i]), claim)) listed = listed (listed == "" ? "" : ", ") i
+    own = claims_of(kind[node])
+    return "node " node " is of kind " kind[node] ", which has " (own == "" ? "none" : "one for " own) "; nodes with one for " claim ": " (listed == "" ? "none" : listed)
+}
+
 BEGIN {
     split("states atoms init label edges edge nodes node", key, " ")
     # what a kind does with its two numbers: an atom, a node, nothing
@@ -93,11 +105,7 @@ END {
     if (by_formula && number == 20) found(fault_in(asked()))
     if (by_formula && number == 22) found(atoms_lost(asked(), count["atoms"]))
     if (!by_formula && number == 22) for (a = 0; a < count["atoms"]; a++) if (!(a in in_node)) found("no node names atom " a "; " below(count["atoms"], "atoms"))
-    if (number == "node") {
-        for (i = 0; i < nodes; i++) if (kind[i] == 5 || kind[i] == 10) listed = listed (listed == "" ? "" : ", ") i
-        if (node + 0 >= nodes) found(below(nodes, "nodes") ", here " node)
-        else found("node " node " is of kind " kind[node + 0] "; exists-until and EF nodes (kinds 5 and 10): " (listed == "" ? "none" : listed))
-    }
+    if (number == "node") found(node + 0 < nodes ? no_reason(node + 0, claim) : below(nodes, "nodes") ", here " node)
     if (number == 19) {
         if (bad && at < 9 && broken ~ /\r$/) found("line " bad " ends in a carriage return; lines end in a line feed alone")
         else if (bad && (at == 3 || at == 4) && substr(broken, 1, length(head)) == head && length(value) != count[at == 3 ? "states" : "atoms"])

@@ -207,14 +207,14 @@ if [ -e "$house/ask" ]; then
     try "./witness, a file, a formula and a count" lists '[E(T U p1)][0]' listing 'E(T U p1)' 0 true 5
     try "./witness, a file with a formula as its name" lists '[E(T U p1)][0]' 'E(p0 U p1)' 'E(T U p1)' 0 true
     try "./witness, a file with a formula as its name, and a node" lists '[7][0]' 'E(p0 U p1)' 7 0 true
-    try "./witness, a file with a level as its name" lists '[E(T U p1)][0]' true 'E(T U p1)' 0 true
+    try "./witness, a file with a claim as its name" lists '[E(T U p1)][0]' true 'E(T U p1)' 0 true
     try "./witness, - and a formula" lists '[E(T U p1)][0]' - 'E(T U p1)' 0 true
     try "./witness, a word that is no formula, behind a file" lists '[x][0]' listing x 0 true
     try "./witness, a file without a question" misasked "'listing' is a file, and what is asked of it isn't whole" "$witness" listing 0 true
     try "./witness, a file without a question, and a count" misasked "'listing' is a file" "$witness" listing 0 true 5
     try "./witness, a word that is neither" misasked "'x' is neither a file nor a formula" "$witness" x 0 true
-    try "./witness, a formula and a wrong level before a count" misasked "'treu' is no level" "$witness" 'E(T U p1)' 0 treu 5
-    try "./witness, a formula and a wrong level" misasked "'treu' is no level" "$witness" listing 'E(T U p1)' 0 treu
+    try "./witness, a formula and a wrong claim before a count" misasked "'treu' is neither true nor possible nor false" "$witness" 'E(T U p1)' 0 treu 5
+    try "./witness, a formula and a wrong claim" misasked "'treu' is neither true nor possible nor false" "$witness" listing 'E(T U p1)' 0 treu
     try "./witness, a formula and a wrong count" misasked "'true' is no count" "$witness" 'E(T U p1)' 0 true true
     try "./witness, a formula and a wrong state" misasked "'true' is no state" "$witness" listing 'E(T U p1)' true true
     try "./witness, a formula without quotes" misasked "a formula with blanks is put in quotes" "$witness" listing 'E(T' U 'p1)' 0 true
@@ -228,10 +228,10 @@ if [ -e "$house/ask" ]; then
     try "./witness, a formula before its file, and a count" misasked "there is no file 'E(T U p1)': the file comes first" "$witness" 'E(T U p1)' listing 0 true 5
     try "./witness, the longest word of a call" answered 1 answer=20 "at most 4,096 bytes, here 131071" "$longest" 0 true
     try "./witness, refusal 12 of a node" answered 1 answer=12 "an operand that is not earlier" 1 0 true
-    no_path="no question: this formula is no exists-until and no EF"
-    hint="an exists-until is written E(f U g) and an EF is written EF f, with nothing before it and nothing behind"
+    no_reason="no question: this formula has no such reason"
+    hint="for true or possible of E(f U g) and EF f, for true of EG f, and for false of A(f U g), AF f and AG f, with nothing before it and nothing behind"
     for formula in '!E(T U p0)' '!EF p0' 'AG p0' 'EX EF p0'; do
-        try "./witness, another formula, $formula" answered 2 "$no_path" "$no_path; $hint" "$formula" 0 true
+        try "./witness, another formula, $formula" answered 2 "$no_reason" "$no_reason; there is one $hint" "$formula" 0 true
     done
     try "./witness, refusal 20" answered 1 answer=20 "due there: a formula" 'E(T U )' 0 true
     try "./witness, refusal 10 of the formula" answered 1 answer=10 "a formula has at most 64 nodes, here 67" "E(T U ${many}T)" 0 true

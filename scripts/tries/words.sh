@@ -33,10 +33,10 @@ known_kinds() { # what the words know of each kind is what the rules have
     grep -qF "split(\"${each% }\", " "$house/scripts/cause.awk" || { echo "the rules have: $each"; return 1; }
 }
 helps() { call "$1" --help >"$out"; status 0 && grep -q "256 states" "$out" && grep -q "32,768 bytes" "$out"; }
-helps_of_paths() { helps "$witness" && grep -qF "'EF p1'" "$out" && grep -qF "or 10." "$out" && grep -qF "no exists-until and no EF" "$out"; }
+helps_of_reasons() { helps "$witness" && grep -qF "'EF p1'" "$out" && grep -qF "kinds 5, 10" "$out" && grep -qF "has no such reason" "$out"; }
 
 try "help names the limits, ./desk" helps "$desk"
-try "help names the limits and what has paths, ./witness" helps_of_paths
+try "help names the limits and what has a reason, ./witness" helps_of_reasons
 
 graph='states=2\natoms=1\ninit=10\nlabel=T\nlabel=F\nedges=2\nedge=0,1\nedge=1,1\nnodes=2\nnode=1,0,0\nnode=5,0,0\n'
 try "refusal 1" refused 1 'states=300\n' "1 to 256 states, here 300"
@@ -64,15 +64,15 @@ try "refusal 19, a short line" refused 19 'states=3\natoms=1\ninit=10\n' "for ea
 try "refusal 19, a carriage return" refused 19 'states=3\r\n' "line 1 ends in a carriage return"
 try "./witness, a wrong node" asked "'07' is no node" 07 0 true
 try "./witness, a wrong state" asked "'01' is no state" 0 01 true
-try "./witness, a wrong level" asked "'maybe' is no level" listed 0 0 maybe
-try "./witness, a wrong level before a count" asked "'treu' is no level" 0 0 treu 5
+try "./witness, a wrong claim" asked "'maybe' is neither true nor possible nor false" listed 0 0 maybe
+try "./witness, a wrong claim before a count" asked "'treu' is neither true nor possible nor false" 0 0 treu 5
 try "./witness, a wrong count" asked "'all' is no count" listed 0 0 true all
 try "./witness, too few words" asked "here are 2 words" 0 0
 try "./witness, no such state" answered 1 answer=15 "states are 0 to 1, here 9" 1 9 true
 try "./witness, no such node" answered 2 "no question: the model has no such node" "nodes are 0 to 1, here 7" 7 0 true
-no_node="no question: this node is no exists-until and no EF"
-try "./witness, a node of another kind" answered 2 "$no_node" "$no_node; node 0 is of kind 1; exists-until and EF nodes (kinds 5 and 10): 1" 0 0 true
+no_node="no question: this node has no such reason"
+try "./witness, a node of another kind" answered 2 "$no_node" "$no_node; node 0 is of kind 1, which has none; nodes with one for true: 1" 0 0 true
 more=${graph/nodes=2/nodes=4}'node=13,0,0\nnode=10,0,0\n'
-try "./witness, a node of another kind, beside an EF" answered_of "$more" 2 "$no_node" "node 2 is of kind 13; exists-until and EF nodes (kinds 5 and 10): 1, 3" 2 0 true
+try "./witness, a node of another kind, beside an EF" answered_of "$more" 2 "$no_node" "kind 13, which has one for false; nodes with one for true: 1, 3" 2 0 true
 more=${graph/node=5,0,0/node=11,0,0}
-try "./witness, a node of another kind, and no other" answered_of "$more" 2 "$no_node" "node 1 is of kind 11; exists-until and EF nodes (kinds 5 and 10): none" 1 0 true
+try "./witness, a node of another kind, and no other" answered_of "$more" 2 "$no_node" "kind 11, which has one for false; nodes with one for true: none" 1 0 true
