@@ -60,13 +60,17 @@ fn list(states: usize, transitions: &[u16], left: &[u8], right: &[u8], level: u8
     }
 }
 
-// The first n entries of a path space.
-fn tell_list(n: usize, space: &[u16]) {
+// The first entries of a path space, or none where it has fewer.
+fn front(space: &[u16], n: usize) -> &[u16] {
     if space.len() < n {
-        return;
+        return &space[..0];
     }
+    &space[..n]
+}
+
+fn tell_list(list: &[u16]) {
     let mut line = [0u8; MOST_PATH_LINE];
-    let written = answer::write_path(&space[..n], &mut line);
+    let written = answer::write_path(list, &mut line);
     put(written, &line);
 }
 
@@ -83,22 +87,20 @@ fn tell_ending(ending: Ending) {
     }
 }
 
-// A picture counts as one list: where none is to be told, only that there is one.
-fn tell_picture(n: usize, ending: Ending, space: &[u16], most: usize) {
+// Where no list is to be told, only that there is one.
+fn tell_picture(list: &[u16], ending: Ending, most: usize) {
     if most == 0 {
         io::write_all(STDOUT_FILENO, b"more\n");
         return;
     }
-    tell_list(n, space);
+    tell_list(list);
     tell_ending(ending);
 }
 
-// One picture, and how it ends.
 fn picture(states: usize, transitions: &[u16], left: &[u8], right: &[u8], wanted: Wanted) {
     let mut space = [0u16; MOST_STATES];
-    let answer = pictures::picture(states, transitions, left, right, wanted.start, &mut space);
-    match answer {
-        PictureAnswer::Picture(n, ending) => tell_picture(n, ending, &space, wanted.most),
+    match pictures::picture(states, transitions, left, right, wanted.start, &mut space) {
+        PictureAnswer::Picture(n, ending) => tell_picture(front(&space, n), ending, wanted.most),
         PictureAnswer::None => {
             io::write_all(STDOUT_FILENO, b"none\n");
         }
