@@ -49,6 +49,17 @@ set_reason() { # KIND CLAIM ROW-OF-LEFT ROW-OF-RIGHT
         *) told='' left='' right='' ;;
     esac
 }
+# The look at a reason finds fault with what is none: on the edges 0,1 and 1,0 and 1,1 and 1,2 and 2,2, asked about state 0.
+faulty() { # TOLD CLAIM ROW LEFT RIGHT ANSWERS
+    printf 'edge=%s\n' 0,1 1,0 1,1 1,2 2,2 >edges
+    for answered in "${@:6}"; do
+        printf '%b\n' "$answered" >"$out"
+        if awk -v state=0 -v told="$1" -v claim="$2" -v row="$3" -v left="$4" -v right="$5" -f "$here/tries/shown.awk" edges "$out"; then
+            echo "no fault is found with $answered"
+            return 1
+        fi
+    done
+}
 answers_with() { # STATUS ANSWER WORDS ARGUMENTS, the program itself
     call "$checkout/witness" "${@:4}" >"$out" </dev/null
     status "$1" && said "$3" && wrote "$2" && no_scratch
@@ -127,6 +138,12 @@ if grep -qF 'true|possible|false' "$house/witness"; then
         try "busybox's awk in place of awk, ./witness and a claim" claimed_with busybox awk
     fi
 fi
+wrong=(none more '' 'path=0' 'path=0\nend' 'path=1\nback=0' 'path=0\nback=0' 'path=0,1\nback=2' 'path=0,1\nback=' 'path=0,1\nback=0\nend' 'path=0,2\nback=1'
+    'path=0,1\nfalls' 'path=0,1,2\nfalls' 'path=0,1,1,1\nback=0' 'path=0,1\npath=0,1\nback=0')
+try "no picture that is none passes" faulty picture false FFF TTF FFT "${wrong[@]}"
+try "no picture passes where there is none" faulty picture false UFF TTF FFF 'path=0,1\nback=0'
+wrong=(none more 'path=0,1,2' 'path=0,1,2\nmore' 'path=1,2\nend' 'path=0,2\nend' 'path=0,1\nend' 'path=0,1,2\nback=0' 'path=0,1,1,2\nend' 'path=0\nend')
+try "no paths that are none pass" faulty paths true TTT TTF FUT "${wrong[@]}"
 if grep -qF 'true|possible|false' "$house/witness" && (built); then
     # node k is of kind k, but the first, another atom, and the last, of kind 0
     printf '%s\n' states=5 atoms=2 init=10000 label=TF label=TF label=FF label=TT label=UF edges=8 edge=0,1 edge=0,3 edge=1,0 edge=1,2 edge=2,2 \

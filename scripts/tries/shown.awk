@@ -1,6 +1,6 @@
 # Whether what ./witness wrote, the second file, is a reason for a claim about a state of a model, the first file, or none where the claim isn't so;
 # where not, what is wrong. Set before: state, claim, row (of what is claimed, in letters), told (paths or picture), left and right (its rows).
-function fault(words) { if (!bad) print "state " state ", " claim ": " words; bad = 1; exit }
+function fault(words) { if (!bad) print "state " state ", " claim ": " words; bad = 1; exit 1 }
 function value(row, s) { return substr(row, s + 1, 1) }
 function is(claim, v) { return claim == "true" ? v == "T" : claim == "false" ? v == "F" : v != "F" }
 
