@@ -93,19 +93,17 @@ formula_shown() { # KIND CLAIM MODEL FORMULA LEFT [RIGHT]: a formula, and what i
     only=(--only-named)
     shown_everywhere "$2" "$(row_of "$3" "$4")" "$3" "$4"
 }
-ring() { # LABELS LABELS-OF-THE-LAST: as many states as there may be, one behind the other, and the first behind the last
-    echo states=256 && echo atoms=2 && printf 'init=1%0255d\n' 0
-    for ((state = 0; state < 255; state++)); do echo "label=$1"; done
-    echo "label=$2" && echo edges=256
+ring() { # LABELS LABELS-OF-THE-FIRST LABELS-OF-THE-LAST: as many states as there may be, one behind the other, the first behind the last
+    echo states=256 && echo atoms=2 && printf 'init=1%0255d\n' 0 && echo "label=$2"
+    for ((state = 1; state < 255; state++)); do echo "label=$1"; done
+    echo "label=$3" && echo edges=256
     for ((state = 0; state < 255; state++)); do echo "edge=$state,$((state + 1))"; done
     printf '%s\n' edge=255,0 nodes=3 node=1,0,0 node=1,1,0 node=6,0,1
 }
-longest_shown() { # LABELS LABELS-OF-THE-LAST STATE ENDING: the only picture there is
-    ring "$1" "$2" >longest
-    call "$checkout/witness" longest 2 "$3" false >"$out"
-    expected=$(seq -s , "$3" 255)
-    [ "$4" = falls ] || [ "$3" = 0 ] || expected=$expected,$(seq -s , 0 $(($3 - 1)))
-    status 0 && wrote "path=$expected"$'\n'"$4" && no_scratch
+longest_shown() { # LABELS LABELS-OF-THE-FIRST LABELS-OF-THE-LAST STATE ANSWER: the only picture that there is
+    ring "$1" "$2" "$3" >longest
+    call "$checkout/witness" longest 2 "$4" false >"$out"
+    status 0 && wrote "$5" && no_scratch
 }
 
 if grep -qF 'true|possible|false' "$house/witness"; then
@@ -163,9 +161,8 @@ if grep -qF 'true|possible|false' "$house/witness" && (built); then
     try "AG false, the tick that doesn't return" formula_shown 13 false never-returns.model 'AG (p0>AF p1)' '(p0>AF p1)'
     try "AG false, two states" formula_shown 13 false two-states.model 'AG !p0' '!p0'
     try "EF possible, the tick that may not return" formula_shown 10 possible always-returns.model 'EF (p0&EG !p1)' '(p0&EG !p1)'
-    try "the longest picture that goes back" longest_shown TF TF 0 back=0
-    try "the longest picture that goes back, from the middle" longest_shown TF TF 100 back=0
-    try "the longest picture that falls" longest_shown TF FF 0 falls
+    try "the longest picture that goes back" longest_shown TF TF TF 100 "path=$(seq -s , 100 255),$(seq -s , 0 99)"$'\nback=0'
+    try "the longest picture that only falls" longest_shown TF TT FF 1 "path=$(seq -s , 1 255)"$'\nfalls'
     try "no such state, a picture" answers_with 1 answer=15 "states are 0 to 4, here 5" kinds 6 5 false
     try "no such state, paths of an AG" answers_with 1 answer=15 "states are 0 to 4, here 5" kinds 13 5 false
     try "no such node, false" answers_with 2 "no question: the model has no such node" "nodes are 0 to 14, here 15" kinds 15 0 false
