@@ -70,17 +70,18 @@ shown_at() { # STATE CLAIM ROW MODEL QUESTION [MOST]: what is written is such a 
     status 0 && no_scratch || return 1
     awk -v state="$1" -v claim="$2" -v row="$3" -v told="$told" -v left="$left" -v right="$right" -f "$here/tries/shown.awk" "$4" "$out"
 }
-shown_everywhere() { # CLAIM ROW MODEL QUESTION
+shown_everywhere() { # CLAIM ROW MODEL QUESTION [MOST]
+    [ -n "$2" ] || { echo "no row of $4"; return 1; }
     for ((state = 0; state < ${#2}; state++)); do shown_at "$state" "$@" || return 1; done
 }
-node_shown() { # KIND: the node of this kind in the model of every kind, with every claim
+node_shown() { # KIND: the node of this kind in the model of every kind, with every claim, and a count that leaves nothing out
     mapfile -t rows < <("$checkout/desk" kinds 2>/dev/null | sed -n 's/^row=//p')
     node=$1
     [ "$1" != 0 ] || node=14
     for claim in true possible false; do
         set_reason "$1" "$claim" "${rows[0]}" "${rows[1]}"
         if [ -n "$told" ]; then
-            shown_everywhere "$claim" "${rows[node]}" kinds "$node" || return 1
+            shown_everywhere "$claim" "${rows[node]}" kinds "$node" 9 || return 1
         else
             answers_with 2 "$no_node" "$no_node; node $node is of kind $1, which has $(claims_of "$1"); nodes" kinds "$node" 0 "$claim" || return 1
         fi
@@ -177,6 +178,6 @@ if grep -qF 'true|possible|false' "$house/witness" && (built); then
     for formula in T '!AF p0' 'EG p0' 'EF p0'; do
         try "no reason, $formula false" answers_with 2 "$no_reason" "$no_reason; there is one $hint" --only-named kinds "$formula" 0 false
     done
-elif [ -e "$house/witness" ]; then
+else
     echo "the pictures weren't tried with the program: the programs aren't built here"
 fi
