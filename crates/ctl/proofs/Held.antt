@@ -2,7 +2,7 @@
 use mathlib.Core.Path.{_≡_, refl, sym, ap, ap₂, _∙_, subst}
 use Prim.Native.Nat.{ℕ, _≤_, _<_}
 use mathlib.Core.List.{List, []}
-use mathlib.Core.Bool.{false, not}
+use mathlib.Core.Bool.{Bool, true, false, cond, not}
 use native.Mathlib.Omega.{arith}
 use lib.ListN.{length, getD, drop}
 use lib.Seq.{drop-at}
@@ -11,8 +11,9 @@ use borrow.Author.Tests.{lt-ltb, ltb-true, not-false}
 use Rattle.lists.specs.Entries.{All, at}
 use Rattle.lists.specs.Rows.{fill}
 use Rattle.values.specs.Limits.{mostStates}
+use Rattle.values.specs.Values.{neg}
 use Rattle.values.specs.Rows.{badRow, held, rowBegin, rowIn, rowValues}
-use Rattle.kripke.specs.Until.{everywhere, next, until}
+use Rattle.kripke.specs.Until.{everywhere, next, opposite, until}
 use Rattle.model.specs.Kinds.{Use, aNode, bound, kindOf, uses}
 use Rattle.model.specs.Model.{Model, kindAt, leftAt, nodeCount, rightAt}
 use Rattle.ctl.specs.Answers.{numberDue}
@@ -100,12 +101,20 @@ module _ (m : Model) (before : List ℕ) (z : numberDue m before ≡ 0) (after :
   unfolding kindOf nodeValue
   next-held k s h l four = let p = part-held 4 k s h l four refl in (p .0, p .2)
 
-  -- E until: over the rows that it holds for the two parts
-  pub until-held : (k s : ℕ) → k < nodeCount ns → s < S → kindAt ns k ≡ 5 → (leftAt ns k < k) × (rightAt ns k < k) × (held S after k s ≡ until false (m .transitions) (rowValues S (rowIn S after (leftAt ns k))) (rowValues S (rowIn S after (rightAt ns k))) S s)
+  -- E and A until: over the rows that it holds for the two parts
+  pub until-held : (all : Bool) (k s : ℕ) → k < nodeCount ns → s < S → kindAt ns k ≡ cond all 6 5 → (leftAt ns k < k) × (rightAt ns k < k) × (held S after k s ≡ until all (m .transitions) (rowValues S (rowIn S after (leftAt ns k))) (rowValues S (rowIn S after (rightAt ns k))) S s)
   unfolding kindOf nodeValue
-  until-held k s h l five = part-held 5 k s h l five refl
+  until-held false k s h l five = part-held 5 k s h l five refl
+  until-held true k s h l six = part-held 6 k s h l six refl
 
-  -- EF: an E until with true on the left
-  pub eventually-held : (k s : ℕ) → k < nodeCount ns → s < S → kindAt ns k ≡ 10 → (leftAt ns k < k) × (held S after k s ≡ until false (m .transitions) (everywhere S) (rowValues S (rowIn S after (leftAt ns k))) S s)
+  -- EF and AF: an until with true on the left
+  pub eventually-held : (all : Bool) (k s : ℕ) → k < nodeCount ns → s < S → kindAt ns k ≡ cond all 11 10 → (leftAt ns k < k) × (held S after k s ≡ until all (m .transitions) (everywhere S) (rowValues S (rowIn S after (leftAt ns k))) S s)
   unfolding kindOf nodeValue
-  eventually-held k s h l ten = let p = part-held 10 k s h l ten refl in (p .0, p .2)
+  eventually-held false k s h l ten = let p = part-held 10 k s h l ten refl in (p .0, p .2)
+  eventually-held true k s h l eleven = let p = part-held 11 k s h l eleven refl in (p .0, p .2)
+
+  -- EG and AG: not the other one's "eventually not"
+  pub always-held : (all : Bool) (k s : ℕ) → k < nodeCount ns → s < S → kindAt ns k ≡ cond all 13 12 → (leftAt ns k < k) × (held S after k s ≡ neg (until (not all) (m .transitions) (everywhere S) (opposite S (rowValues S (rowIn S after (leftAt ns k)))) S s))
+  unfolding kindOf nodeValue
+  always-held false k s h l twelve = let p = part-held 12 k s h l twelve refl in (p .0, p .2)
+  always-held true k s h l thirteen = let p = part-held 13 k s h l thirteen refl in (p .0, p .2)

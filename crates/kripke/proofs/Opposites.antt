@@ -18,6 +18,7 @@ use Rattle.values.specs.Limits.{mostStates}
 use Rattle.values.specs.Rows.{badRow, rowSize, rowValues, storedRow, valueAt}
 use Rattle.values.specs.Values.{neg, top}
 use Rattle.values.specs.declared.rows.Row.{Row}
+use Rattle.values.proofs.OneAnswer.{equation-one}
 use Rattle.values.proofs.StoredRows.{row-read, stored-size, stored-valid, stored-values, values-at}
 use Rattle.kripke.specs.Answers.{OppositeStored, oppositeRow}
 use Rattle.kripke.specs.Until.{opposite}
@@ -81,3 +82,9 @@ module _ (S : ℕ) (stored : List ℕ) (r : Row) (e : r ≡ rowRead S stored) wh
           is = w .answer ∙ ap (λ (n : ℕ). leb n (length before)) size ∙ sym (and-holds (not (badRow S stored)) (leb (rowSize S) (length before)) (ap not (k .fine))) ∙ sym (and-holds (leb S mostStates) _ (le-leb S mostStates (k .few)));
           space = w .space ∙ ap₂ (λ (b : Bool) (xs : List ℕ). cond b (fill xs before) before) (sym (w .answer)) is;
         }
+
+-- any two answers that it may give coincide, and so does what it leaves
+pub opposite-one : (S : ℕ) (stored before after after′ : List ℕ) (r r′ : Bool) → OppositeStored S stored before after r → OppositeStored S stored before after′ r′ → (r ≡ r′) × (after ≡ after′)
+opposite-one S stored before after after′ r r′ p p′ =
+    let e : r ≡ r′ = equation-one _ r r′ (p .is) (p′ .is) in
+    (e, p .space ∙ ap (λ (b : Bool). cond b (fill (oppositeRow S stored) before) before) e ∙ sym (p′ .space))

@@ -81,6 +81,11 @@ module _ (S : ℕ) (es left right : List ℕ) (none : refusalOf (questionCauses 
   unfolding tableRefusal
   rows-fine = or-neither (badRow S left) (badRow S right) (passed 13 _ [] (sym (parts ∙ rw table-fine) ∙ none) .0)
 
+-- and so it is where they are
+pub question-fine : (S : ℕ) (es left right : List ℕ) → tableRefusal S es ≡ 0 → badRow S left ≡ false → badRow S right ≡ false → refusalOf (questionCauses S es left right) ≡ 0
+unfolding tableRefusal
+question-fine S es left right z l r = refusal-append 0 (tableCauses S es) (cause 14 (badRow S left || badRow S right) ∷ []) (table-rises S es) ∙ rw z (skipped 14 _ [] (or-none _ _ l r) ∙ none-refused)
+
 -- what a caller has of the answer
 pub tables-taken : {S : ℕ} {es left right : List ℕ} {t : Tables} → t ≡ tablesRead S es left right → TablesRead S es left right t
 unfolding tablesRead transitionsRead

@@ -1,5 +1,5 @@
 -- When the laws of runs can be used: accepted tables make a question that is taken; wherever First refuses nothing there is room, and there its answer tells whether there is a witness; every beginning of a run is a chain.
-use mathlib.Core.Path.{_≡_, refl, _∙_}
+use mathlib.Core.Path.{_≡_, refl, sym}
 use Prim.Native.Nat.{ℕ, _≤_, _<_}
 use mathlib.Core.List.{List, [], _∷_, _++_}
 use mathlib.Core.Bool.{false, _||_}
@@ -8,13 +8,12 @@ use native.Mathlib.Omega.{arith}
 use lib.ListN.{length}
 use lib.Dec.{leb}
 use borrow.Author.Tests.{lt-leb}
-use Rattle.lists.specs.Causes.{cause, refusalOf}
-use Rattle.lists.proofs.Causes.{none-refused, refusal-append, skipped}
+use Rattle.lists.specs.Causes.{refusalOf}
 use Rattle.lists.proofs.Numbers.{lt-or-le}
 use Rattle.lists.proofs.Tests.{or-none}
 use Rattle.values.specs.Rows.{badRow}
-use Rattle.kripke.specs.Refusals.{tableCauses, tableRefusal}
-use Rattle.kripke.proofs.Refusals.{table-rises}
+use Rattle.kripke.specs.Refusals.{tableRefusal}
+use Rattle.kripke.proofs.Reading.{not-15, question-fine}
 use Rattle.paths.specs.declared.FirstAnswer.{FirstAnswer}
 use Rattle.paths.specs.declared.FirstAnswer.the-variants as first
 use Rattle.paths.specs.Questions.{Question, Witnessed, asked}
@@ -26,10 +25,8 @@ use Rattle.lists.proofs.Late.{applies-none, only-late}
 
 -- no cause applies to a question on accepted tables, of a level that is one and from a state
 pub fine-question : (S : ℕ) (es left right : List ℕ) (level start : ℕ) → tableRefusal S es ≡ 0 → badRow S left ≡ false → badRow S right ≡ false → (level ≡ 1) ⊎ (level ≡ 2) → start < S → refusalOf (firstCauses (asked S es left right level) start) ≡ 0
-unfolding tableRefusal badLevel
-fine-question S es left right level start z l r lev h =
-    refusal-append 0 (tableCauses S es) (cause 14 (badRow S left || badRow S right) ∷ cause 15 (badLevel level || leb S start) ∷ []) (table-rises S es)
-    ∙ rw z (skipped 14 _ _ (or-none _ _ l r) ∙ skipped 15 _ _ (or-none (badLevel level) (leb S start) (fine-level lev) (lt-leb S start h)) ∙ none-refused)
+unfolding badLevel
+fine-question S es left right level start z l r lev h = not-15 S es left right (badLevel level || leb S start) 0 (sym (question-fine S es left right z l r)) refl (or-none (badLevel level) (leb S start) (fine-level lev) (lt-leb S start h))
   where
     fine-level : (level ≡ 1) ⊎ (level ≡ 2) → badLevel level ≡ false
     fine-level (inl e) = rw e

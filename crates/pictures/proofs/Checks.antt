@@ -9,22 +9,20 @@ use lib.ListN.{length, take, drop}
 use lib.Seq.{take-at}
 use lib.Dec.{eqb, leb}
 use borrow.Author.Tests.{le-leb, eqb-true, eqb-false}
-use Rattle.lists.specs.Causes.{Applies, cause, refusalOf}
+use Rattle.lists.specs.Causes.{refusalOf}
 use Rattle.lists.specs.Entries.{All, at}
 use Rattle.lists.specs.Rows.{fill}
-use Rattle.lists.proofs.Causes.{none-refused, refusal-append, skipped}
 use Rattle.lists.proofs.Entries.{all-at}
 use Rattle.lists.proofs.Late.{none-applies}
-use Rattle.lists.proofs.Tests.{and-both, or-none}
+use Rattle.lists.proofs.Tests.{and-both}
 use Rattle.values.specs.Limits.{mostStates}
 use Rattle.values.specs.Rows.{badRow, rowSize, valueAt}
 use Rattle.values.proofs.StoredRows.{row-size-within, row-values-small}
 use Rattle.kripke.specs.Answers.{OppositeStored, oppositeRow}
-use Rattle.kripke.specs.Refusals.{questionCauses, tableCauses, tableRefusal}
+use Rattle.kripke.specs.Refusals.{questionCauses, tableRefusal}
 use Rattle.kripke.specs.Transitions.{Edge}
 use Rattle.kripke.proofs.Opposites.{opposite-at, opposite-size, opposite-valid}
-use Rattle.kripke.proofs.Reading.{not-15}
-use Rattle.kripke.proofs.Refusals.{table-rises}
+use Rattle.kripke.proofs.Reading.{not-15, question-fine}
 use Rattle.paths.specs.declared.CheckAnswer.the-variants as check
 use Rattle.paths.specs.Answers.{CheckPromise}
 use Rattle.paths.specs.Questions.{From, Reaches, asked}
@@ -58,9 +56,9 @@ module _ (S : ℕ) (es row path : List ℕ) where
   pass-no c = tells-no (c .says)
 
   pub pass-refused : (n : ℕ) → Readable S es row → CheckPromise (asked S es row row 2) path (check.Refused n) → ⊥
-  unfolding tableRefusal badLevel
+  unfolding badLevel
   pass-refused n r c =
-      let none : refusalOf (questionCauses S es row row) ≡ 0 = refusal-append 0 (tableCauses S es) _ (table-rises S es) ∙ rw (r .table) (skipped 14 _ _ (or-none _ _ (r .valid) (r .valid)) ∙ none-refused) in
+      let none : refusalOf (questionCauses S es row row) ≡ 0 = question-fine S es row row (r .table) (r .valid) (r .valid) in
       none-applies (causes (asked S es row row 2)) (causes-rise (asked S es row row 2)) (not-15 S es row row (badLevel 2) 0 (sym none) refl refl) n (c .number .applies (λ e. omega (arith, c .says)))
 
 -- what a list that passes has: an entry, and at each a state where the row is true

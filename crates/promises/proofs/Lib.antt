@@ -8,6 +8,7 @@ pub mod Formulas
 pub mod Asking
 pub mod Text
 pub mod Paths
+pub mod Pictures
 pub mod Labels
 pub mod LineNights
 pub mod Nights

@@ -1,5 +1,5 @@
 -- Demand 3, from the laws of the path calls and of judging.
-use mathlib.Core.Path.{_≡_, sym, ap, subst, _∙_}
+use mathlib.Core.Path.{_≡_, refl, sym, ap, ap₂, subst, _∙_}
 use Prim.Native.Nat.{ℕ, _≤_, _<_}
 use mathlib.Core.List.{List}
 use mathlib.Core.Bool.{false}
@@ -11,7 +11,9 @@ use Rattle.lists.specs.Entries.{at}
 use Rattle.values.specs.Values.{top}
 use Rattle.values.specs.Rows.{badRow, rowIn, rowValues, storedRow}
 use Rattle.values.specs.declared.verdict.Verdict.{Verdict}
-use Rattle.kripke.specs.Until.{everywhere, until}
+use Rattle.kripke.specs.Answers.{oppositeRow}
+use Rattle.kripke.specs.Until.{everywhere, opposite, until}
+use Rattle.kripke.proofs.Opposites.{opposite-valid, opposite-values}
 use Rattle.model.specs.Model.{Model, leftAt, nodeCount, rightAt}
 use Rattle.ctl.specs.Answers.{Judging}
 use Rattle.ctl.specs.declared.Judged.the-variants.{Verdicts}
@@ -20,8 +22,8 @@ use Rattle.paths.specs.declared.FirstAnswer.the-variants as first
 use Rattle.paths.specs.Questions.{Question, asked}
 use Rattle.paths.specs.Answers.{FirstPromise}
 use Rattle.paths.specs.Runs.{RoomFor}
-use Rattle.promises.specs.Paths.{BeginningIsChain, ChainIsBeginning, EndAgain, EventuallyExactly, EveryShortestPath, FewEnough, FirstExactly, OneCheck, OneFirst, OneNext, PathRefusalKeeps, RoomEnough, RoomyThere}
-use Rattle.ctl.proofs.Held.{eventually-held, row-held, until-held}
+use Rattle.promises.specs.Paths.{BeginningIsChain, ChainIsBeginning, EndAgain, EventuallyExactly, EveryShortestPath, FewEnough, FirstExactly, NotAlwaysExactly, OneCheck, OneFirst, OneNext, PathRefusalKeeps, RoomEnough, RoomyThere}
+use Rattle.ctl.proofs.Held.{always-held, eventually-held, row-held, until-held}
 use Rattle.values.proofs.StoredRows.{stored-valid, stored-values}
 use Rattle.lists.proofs.Numbers.{lt-or-le}
 use Rattle.lists.proofs.Rows.{length-tab, tab-at, tab-past}
@@ -42,10 +44,10 @@ truth-small : (S s : ℕ) → at (everywhere S) s ≤ top
 unfolding everywhere
 truth-small S s = ⊎-elim (λ (l : s < S). rw (tab-at (λ (s : ℕ). top) S s l) (omega arith)) (λ (l : S ≤ s). rw (tab-past (λ (s : ℕ). top) S s l) (omega arith)) (lt-or-le s S)
 
-truth-stands : (S : ℕ) → badRow S (storedRow (everywhere S)) ≡ false
+pub truth-stands : (S : ℕ) → badRow S (storedRow (everywhere S)) ≡ false
 truth-stands S = subst (λ (n : ℕ). badRow n (storedRow (everywhere S)) ≡ false) (truth-length S) (stored-valid (everywhere S) (truth-small S))
 
-truth-read : (S : ℕ) → rowValues S (storedRow (everywhere S)) ≡ everywhere S
+pub truth-read : (S : ℕ) → rowValues S (storedRow (everywhere S)) ≡ everywhere S
 truth-read S = subst (λ (n : ℕ). rowValues n (storedRow (everywhere S)) ≡ everywhere S) (truth-length S) (stored-values (everywhere S))
 
 pub everyShortestPath : EveryShortestPath
@@ -97,17 +99,26 @@ tells m before after v p left right s level value h l r lev e space space′ a r
     (λ reached. d .0 (link .1 (subst (λ (x : ℕ). level ≤ x) e reached)), λ missed. d .1 (λ w. omega (arith, link .0 w, e)))
 
 -- the row of a node stands in the space as one
-stands : (m : Model) (before after : List ℕ) (v : Verdict) → Judging m before after (Verdicts v) → (k : ℕ) → k < nodeCount (m .nodes) → badRow (m .states) (rowIn (m .states) after k) ≡ false
+pub stands : (m : Model) (before after : List ℕ) (v : Verdict) → Judging m before after (Verdicts v) → (k : ℕ) → k < nodeCount (m .nodes) → badRow (m .states) (rowIn (m .states) after k) ≡ false
 stands m before after v p k h = row-held m before (number-none m before after v p) after (rows-stand m before after v p) k h .0
 
 pub firstExactly : FirstExactly
 firstExactly m before after v p k s level t five lev =
-    let u = until-held m before (number-none m before after v p) after (rows-stand m before after v p) k s (t .node) (t .state) five in
+    let u = until-held m before (number-none m before after v p) after (rows-stand m before after v p) false k s (t .node) (t .state) five in
     tells m before after v p _ _ s level _ (t .state) (stands m before after v p (leftAt (m .nodes) k) (omega (arith, t .node))) (stands m before after v p (rightAt (m .nodes) k) (omega (arith, t .node))) lev (u .2)
 
 pub eventuallyExactly : EventuallyExactly
 eventuallyExactly m before after v p k s level t ten lev =
     let S : ℕ = m .states in
-    let u = eventually-held m before (number-none m before after v p) after (rows-stand m before after v p) k s (t .node) (t .state) ten in
+    let u = eventually-held m before (number-none m before after v p) after (rows-stand m before after v p) false k s (t .node) (t .state) ten in
     tells m before after v p _ _ s level _ (t .state) (truth-stands S) (stands m before after v p (leftAt (m .nodes) k) (omega (arith, t .node))) lev
     (u .1 ∙ ap (λ (row : List ℕ). until false (m .transitions) row (rowValues S (rowIn S after (leftAt (m .nodes) k))) S s) (sym (truth-read S)))
+
+pub notAlwaysExactly : NotAlwaysExactly
+notAlwaysExactly m before after v p k s level t thirteen lev space space′ a room f =
+    let S : ℕ = m .states in
+    let part : List ℕ = rowIn S after (leftAt (m .nodes) k) in
+    let u = always-held m before (number-none m before after v p) after (rows-stand m before after v p) true k s (t .node) (t .state) thirteen in
+    let d = tells m before after v p _ _ s level _ (t .state) (truth-stands S) (opposite-valid S part) lev refl space space′ a room f in
+    let e : until false (m .transitions) (rowValues S (storedRow (everywhere S))) (rowValues S (oppositeRow S part)) S s ≡ until false (m .transitions) (everywhere S) (opposite S (rowValues S part)) S s = ap₂ (λ (l r : List ℕ). until false (m .transitions) l r S s) (truth-read S) (opposite-values S part) in
+    (λ reached. d .0 (omega (arith, u .1, e)), λ missed. d .1 (⊎-elim (λ (i : level ≡ 1). omega (arith, u .1, e)) (λ (i : level ≡ 2). omega (arith, u .1, e)) lev))

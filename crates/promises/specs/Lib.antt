@@ -6,7 +6,9 @@ pub mod Operators
 pub mod Formulas
 pub mod Asking
 pub mod Text
+pub mod Reasons
 pub mod Paths
+pub mod Pictures
 pub mod Labels
 pub mod Nights
 pub mod KindNights

@@ -5,9 +5,8 @@ use Prim.Native.Nat.{ℕ, _<_, _≤_}
 use mathlib.Core.List.{List, _++_}
 use mathlib.Core.Logic.{_⊎_, _↔_}
 use lib.ListN.{length}
-use Rattle.values.specs.Rows.{rowIn, storedRow}
-use Rattle.kripke.specs.Until.{everywhere}
-use Rattle.model.specs.Model.{Model, kindAt, leftAt, rightAt}
+use Rattle.values.specs.Values.{neg}
+use Rattle.model.specs.Model.{Model, kindAt}
 use Rattle.paths.specs.declared.FirstAnswer.{FirstAnswer}
 use Rattle.paths.specs.declared.FirstAnswer.the-variants as first
 use Rattle.paths.specs.declared.NextAnswer.{NextAnswer}
@@ -18,6 +17,7 @@ use Rattle.paths.specs.Order.{Among, Ascending}
 use Rattle.paths.specs.Answers.{FirstPromise, NextPromise, CheckPromise}
 use Rattle.paths.specs.Runs.{Chain, Run, RoomFor, Roomy}
 use Rattle.promises.specs.One.{One}
+use Rattle.promises.specs.Reasons.{RowsOf, ofParts, ofPart, ofNot}
 use Rattle.promises.specs.Verdicts.{Accepting, There, written}
 
 -- "I get every shortest witness path, each once, in ascending order of its state numbers, and then the word that there are no more."
@@ -70,26 +70,27 @@ OneNext = (q : Question) (before : List ℕ) → One (NextPromise q before)
 abbrev pub OneCheck : Type 0
 OneCheck = (q : Question) (path : List ℕ) (a a′ : CheckAnswer) → CheckPromise q path a → CheckPromise q path a′ → a ≡ a′
 
--- what a question takes from a judged model: its states and transitions, and the rows that the space holds for the two parts of node k
-abbrev pub questionOf : Model → List ℕ → ℕ → ℕ → Question
-questionOf m space k level =
-    asked (m .states) (m .transitions) (rowIn (m .states) space (leftAt (m .nodes) k)) (rowIn (m .states) space (rightAt (m .nodes) k)) level
+-- what is asked about node k of a judged model, at a level: a path with these rows
+abbrev pub pathOf : RowsOf → Model → List ℕ → ℕ → ℕ → Question
+pathOf rows m space k level = asked (m .states) (m .transitions) (rows m space k .left) (rows m space k .right) level
 
--- what it takes for an EF, which is an exists-until with true on its left: the row that is true everywhere, and the row of its part
-abbrev pub eventuallyOf : Model → List ℕ → ℕ → ℕ → Question
-eventuallyOf m space k level = asked (m .states) (m .transitions) (storedRow (everywhere (m .states))) (rowIn (m .states) space (leftAt (m .nodes) k)) level
-
--- First has a path for a node of this kind exactly where what `judge` wrote for it reaches the level, 2 by true alone, 1 by all but false
-abbrev pub FirstTells : ℕ → (Model → List ℕ → ℕ → ℕ → Question) → Type 0
-FirstTells kind question = Accepting (λ m before after v. (k s level : ℕ) → There m k s → kindAt (m .nodes) k ≡ kind → (level ≡ 1) ⊎ (level ≡ 2)
-    → (space space′ : List ℕ) (a : FirstAnswer) → RoomFor (question m after k level) s space → FirstPromise (question m after k level) s space space′ a
-    → (level ≤ written m after k s → (n : ℕ) × (a ≡ first.Path n)) × (written m after k s < level → a ≡ first.None))
+-- First has a path for a node of this kind, asked with these rows, exactly where this of what `judge` wrote for it reaches the level, 2 by
+-- true alone, 1 by all but false
+abbrev pub FirstTells : ℕ → RowsOf → (ℕ → ℕ) → Type 0
+FirstTells kind rows value = Accepting (λ m before after v. (k s level : ℕ) → There m k s → kindAt (m .nodes) k ≡ kind → (level ≡ 1) ⊎ (level ≡ 2)
+    → (space space′ : List ℕ) (a : FirstAnswer) → RoomFor (pathOf rows m after k level) s space → FirstPromise (pathOf rows m after k level) s space space′ a
+    → (level ≤ value (written m after k s) → (n : ℕ) × (a ≡ first.Path n)) × (value (written m after k s) < level → a ≡ first.None))
 
 -- "At the level 'true' there is a first path exactly when the verdict is true; at the level 'possible', exactly when it isn't false. Here the
 -- rows are the verdicts of the question's own two parts", "the room being large enough for a shortest one". Node k is E(left U right).
 abbrev pub FirstExactly : Type 0
-FirstExactly = FirstTells 5 questionOf
+FirstExactly = FirstTells 5 ofParts (λ (v : ℕ). v)
 
 -- The same where node k is EF.
 abbrev pub EventuallyExactly : Type 0
-EventuallyExactly = FirstTells 10 eventuallyOf
+EventuallyExactly = FirstTells 10 ofPart (λ (v : ℕ). v)
+
+-- Where node k is AG, a path leads to a state where its part is false: at the level "true" there is one exactly when the verdict is false, at
+-- "possible" exactly when it isn't true.
+abbrev pub NotAlwaysExactly : Type 0
+NotAlwaysExactly = FirstTells 13 ofNot neg
