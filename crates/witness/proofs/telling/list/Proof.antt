@@ -10,10 +10,10 @@ use Rattle.witness.proofs.telling.list.Statement.{statement}
 use Rattle.witness.proofs.telling.list.Tie as tie
 
 abbrev Inv-loop : tie.InvT-loop
-Inv-loop states transitions left right level wanted space₀ line₀ call₀ rest₀ space line call rest = (length space ≡ mostStates) × (length line ≡ mostPathLine)
+Inv-loop states transitions left right level space₀ line₀ call₀ rest₀ space line call rest = (length space ≡ mostStates) × (length line ≡ mostPathLine)
 
 abbrev μ-loop : tie.MeasureT-loop
-μ-loop states transitions left right level wanted space₀ line₀ call₀ rest₀ space line call rest = rest
+μ-loop states transitions left right level space₀ line₀ call₀ rest₀ space line call rest = rest
 
 loop-holds : tie.Need-loop-holds Inv-loop μ-loop
 loop-holds c = search needs
