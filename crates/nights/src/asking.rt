@@ -9,8 +9,6 @@ use crate::lines::PATH_SPACE;
 use crate::lines::REST;
 use crate::spaces;
 use crate::spaces::PATTERN_NUMBER;
-use answer::MOST_PATH_LINE;
-use answer::Written;
 use paths::CheckAnswer;
 use paths::FirstAnswer;
 use paths::NextAnswer;
@@ -58,19 +56,6 @@ fn of_check(answer: CheckAnswer) -> Answer {
     }
 }
 
-// The line of a path, without its line feed.
-fn line(path: &[u16]) {
-    let mut buffer = [0u8; MOST_PATH_LINE];
-    match answer::write_path(path, &mut buffer) {
-        Written::Bytes(n) => {
-            if 0 < n {
-                lines::write(spaces::bytes(&buffer, n - 1))
-            }
-        }
-        _ => {}
-    }
-}
-
 // The answer, and whether the path space or the list stayed, or what is behind the path.
 fn tell(call: usize, name: &[u8], answer: Answer, path: &[u16], before: &[u16]) {
     let n = answer.entries;
@@ -78,7 +63,7 @@ fn tell(call: usize, name: &[u8], answer: Answer, path: &[u16], before: &[u16]) 
     let words = b"none|end|yes|no|\n|";
     lines::case(call, name);
     if 0 < n {
-        line(spaces::numbers(path, n));
+        lines::path(spaces::numbers(path, n));
         lines::kept(REST, same);
         return;
     }

@@ -1,5 +1,8 @@
 // What a case writes: which call, its name, numbers, words, and whether what was lent stayed.
+use crate::spaces;
 use crate::table::part;
+use answer::MOST_PATH_LINE;
+use answer::Written;
 use libc::STDOUT_FILENO;
 
 // The calls; a night is told in short, and names none.
@@ -82,6 +85,19 @@ pub(crate) fn case(call: usize, name: &[u8]) {
 
 pub(crate) fn answer(number: u8) {
     count(b"answer=|", 0, number as usize);
+}
+
+// The line of a path, without its line feed.
+pub(crate) fn path(path: &[u16]) {
+    let mut buffer = [0u8; MOST_PATH_LINE];
+    match answer::write_path(path, &mut buffer) {
+        Written::Bytes(n) => {
+            if 0 < n {
+                write(spaces::bytes(&buffer, n - 1))
+            }
+        }
+        _ => {}
+    }
 }
 
 // The end of a line: whether what is named stayed as it was.
