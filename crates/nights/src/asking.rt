@@ -2,11 +2,14 @@
 use crate::base;
 use crate::lines;
 use crate::lines::CHECK;
+use crate::lines::CHECK_PICTURE;
 use crate::lines::FIRST;
 use crate::lines::LIST;
 use crate::lines::NEXT;
 use crate::lines::PATH_SPACE;
+use crate::lines::PICTURE;
 use crate::lines::REST;
+use crate::picturing;
 use crate::spaces;
 use crate::spaces::PATTERN_NUMBER;
 use paths::CheckAnswer;
@@ -161,13 +164,16 @@ pub(crate) fn numbered(call: usize, name: &[u8], numbers: &[u16]) {
     let level = (base::one(numbers, b'G') % 256) as u8;
     let transitions = base::entries(numbers, b'T');
     let list = base::entries(numbers, b'X');
+    let start = base::one(numbers, b'B');
+    let room = base::one(numbers, b'R');
+    let ending = base::one(numbers, b'D');
     match call {
         FIRST => {
-            let start = base::one(numbers, b'B');
-            let room = base::one(numbers, b'R');
             first(name, states, transitions, left, right, level, start, room);
         }
         NEXT => next(name, states, transitions, left, right, level, list),
+        PICTURE => picturing::picture(name, states, transitions, left, right, start, room),
+        CHECK_PICTURE => picturing::check(name, states, transitions, left, right, list, ending),
         _ => check(name, states, transitions, left, right, level, list),
     }
 }

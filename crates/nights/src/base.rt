@@ -3,6 +3,7 @@
 //   S states   A atoms   L labels   I initial   T transitions   N nodes   V room for verdicts
 //   G level    B start   P left     Q right     R room for a path         X list
 //   K a node whose part is printed
+//   D how a picture ends: 0 where it falls, and otherwise 1 more than the place that it leads back to
 //
 // A list's row has its length, and then its entries. A code writes numbers from a place of a row on, each with a comma
 // behind it: "S=0," no state, "L=7," a list of seven labels, "T9=4," the ninth number of the transitions.
@@ -100,7 +101,7 @@ pub(crate) fn changed(model: &[u8], code: &[u8]) -> [u16; NUMBERS] {
     write(
         &mut list,
         b"S=4,A=2,L=8,2,0,2,0,2,0,0,2,I=4,1,0,0,0,T=10,0,1,0,2,1,3,2,3,3,3,N=9,1,0,0,1,1,0,5,0,1,V=12,\
-          G=2,B=0,P=4,2,2,2,0,Q=4,0,0,0,2,R=4,X=3,0,1,3,",
+          G=2,B=0,P=4,2,2,2,0,Q=4,0,0,0,2,R=4,X=3,0,1,3,D=0,",
     );
     write(&mut list, model);
     write(&mut list, code);

@@ -5,6 +5,7 @@
 //   L l o O  the same of the largest model, and in short; of the most atoms, and with the last of them unnamed
 //   k        no call: the limits in force
 //   F N C    First, Next, Check; * the three in turn, p of the largest model
+//   W X      a picture, its check; Y the two in turn
 //   t        a text read, and judged with the model's room; 1 2 3 4 read alone, one of the tables one entry short
 //   u v w    a text with line feeds up to the limit; one beyond it; the same read alone, the nodes one short
 //   r s      a formula's text read, and printed back; the same, the node space one short
@@ -21,10 +22,12 @@ use crate::labels;
 use crate::largest;
 use crate::lines;
 use crate::lines::CHECK;
+use crate::lines::CHECK_PICTURE;
 use crate::lines::FIRST;
 use crate::lines::JUDGE;
 use crate::lines::NEXT;
 use crate::lines::NIGHT;
+use crate::lines::PICTURE;
 use crate::reading;
 use crate::reading::NODES;
 use crate::reading::NONE;
@@ -52,6 +55,12 @@ fn tables(letter: u8, name: &[u8], numbers: &[u16]) {
         b'F' => asking::numbered(FIRST, name, numbers),
         b'N' => asking::numbered(NEXT, name, numbers),
         b'C' => asking::numbered(CHECK, name, numbers),
+        b'W' => asking::numbered(PICTURE, name, numbers),
+        b'X' => asking::numbered(CHECK_PICTURE, name, numbers),
+        b'Y' => {
+            asking::numbered(PICTURE, name, numbers);
+            asking::numbered(CHECK_PICTURE, name, numbers);
+        }
         b'P' | b'S' | b'K' | b'U' => formulas::numbered(letter, name, numbers),
         _ => {
             asking::numbered(FIRST, name, numbers);
@@ -71,7 +80,7 @@ fn asked(letter: u8, name: &[u8], model: &[u8], code: &[u8]) {
         b'q' => labels::asked(name, code),
         b'p' => largest::longest(name),
         b'a'..=b'f' | b'r' | b's' | b'x' | b'y' => formulas::asked(letter, name, code),
-        b'n' | b'j' | b'F' | b'N' | b'C' | b'*' | b'P' | b'S' | b'K' | b'U' => {
+        b'n' | b'j' | b'F' | b'N' | b'C' | b'*' | b'P' | b'S' | b'K' | b'U' | b'W'..=b'Y' => {
             let numbers = base::changed(model, code);
             tables(letter, name, &numbers);
         }

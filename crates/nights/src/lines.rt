@@ -30,6 +30,10 @@ pub(crate) const JUDGE_FORMULA: usize = 10;
 
 pub(crate) const LABEL: usize = 11;
 
+pub(crate) const PICTURE: usize = 12;
+
+pub(crate) const CHECK_PICTURE: usize = 13;
+
 // What is lent, whole or behind what was written.
 pub(crate) const REST: usize = 0;
 
@@ -77,10 +81,10 @@ pub(crate) fn limits() {
 // Which call a line is of, and its case.
 pub(crate) fn case(call: usize, name: &[u8]) {
     let words = b"read, |text, |first, |next, |check, |judge, ||\
-        read formula, |print formula, |print part, |judge formula, |label, |: |";
+        read formula, |print formula, |print part, |judge formula, |label, |picture, |check picture, |: |";
     say(words, call);
     write(name);
-    say(words, 12);
+    say(words, 14);
 }
 
 pub(crate) fn answer(number: u8) {

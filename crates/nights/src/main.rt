@@ -4,7 +4,7 @@
 //   base       the model and the path question that the cases change, by codes
 //   largest    as much of everything as there may be
 //   layers     formulas as deep as there may be
-//   judging, asking, reading, formulas, labels   the calls asked and told
+//   judging, asking, picturing, reading, formulas, labels   the calls asked and told
 //   table, lines, spaces   the parts of a table, the words of a line, what was lent compared
 mod asking;
 mod base;
@@ -15,6 +15,7 @@ mod labels;
 mod largest;
 mod layers;
 mod lines;
+mod picturing;
 mod reading;
 mod spaces;
 mod table;
