@@ -9,7 +9,7 @@ use lib.ListN.{length, take, List·getD-eq-default}
 use lib.Dec.{leb}
 use borrow.Author.Tests.{le-leb}
 use Rattle.lists.specs.Entries.{at}
-use Rattle.lists.specs.Rows.{Filled, fill, tab}
+use Rattle.lists.specs.Rows.{Filled, fill}
 use Rattle.lists.proofs.Numbers.{lt-or-le}
 use Rattle.lists.proofs.Rows.{filled-front, length-tab, tab-at, tab-same}
 use Rattle.lists.proofs.Tests.{and-fails, and-holds}

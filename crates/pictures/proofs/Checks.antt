@@ -1,9 +1,8 @@
 -- The check by `paths`: with the row "not right" on both sides it passes at level 2 exactly the lists along which the right value is 0.
 use mathlib.Core.Path.{_≡_, refl, sym, ap, _∙_, subst}
 use Prim.Native.Nat.{ℕ, _-_, _≤_, _<_}
-use mathlib.Core.List.{List, [], _∷_, _++_}
+use mathlib.Core.List.{List, [], _∷_}
 use mathlib.Core.Bool.{Bool, true, false, cond, not, true≢false}
-use mathlib.Core.Logic.{inl, inr, ⊎-elim}
 use native.Mathlib.Omega.{arith}
 use lib.ListN.{length, take, drop}
 use lib.Seq.{take-at}
@@ -20,7 +19,6 @@ use Rattle.values.specs.Rows.{badRow, rowSize, valueAt}
 use Rattle.values.proofs.StoredRows.{row-size-within, row-values-small}
 use Rattle.kripke.specs.Answers.{OppositeStored, oppositeRow}
 use Rattle.kripke.specs.Refusals.{questionCauses, tableRefusal}
-use Rattle.kripke.specs.Transitions.{Edge}
 use Rattle.kripke.proofs.Opposites.{opposite-at, opposite-size, opposite-valid}
 use Rattle.kripke.proofs.Reading.{not-15, question-fine}
 use Rattle.paths.specs.declared.CheckAnswer.the-variants as check

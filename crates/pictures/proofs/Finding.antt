@@ -12,7 +12,7 @@ use Rattle.lists.proofs.Numbers.{last-or-before}
 use Rattle.lists.proofs.Rows.{filled-at}
 use Rattle.kripke.specs.Transitions.{Edge, Graph, count, from, to}
 use Rattle.kripke.proofs.Successors.{edge-place, edge-state, place-edge}
-use Rattle.pictures.specs.Inside.{Marked, Noted, Way, Ways}
+use Rattle.pictures.specs.Inside.{Marked, Noted, Ways}
 
 -- the way on from s by the first k transitions
 abbrev Upto : ℕ → List ℕ → List ℕ → ℕ → ℕ → ℕ → Type 0

@@ -8,7 +8,7 @@ use native.Mathlib.Omega.{arith}
 use lib.ListN.{length, take, drop}
 use lib.Seq.{take-at}
 use lib.Dec.{leb}
-use Rattle.lists.specs.Causes.{Applies, Lowest, cause, refusalOf}
+use Rattle.lists.specs.Causes.{cause, refusalOf}
 use Rattle.lists.proofs.Late.{applies-left, none-applies}
 use Rattle.pictures.specs.declared.Ending.{Ending}
 use Rattle.pictures.specs.declared.PictureAnswer.{PictureAnswer}

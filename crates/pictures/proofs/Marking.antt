@@ -1,8 +1,8 @@
 -- The marks: what a round takes off, what stays, and what the rounds begin and end with.
-use mathlib.Core.Path.{_≡_, refl, sym, ap, _∙_, subst}
+use mathlib.Core.Path.{_≡_, refl, sym, ap, _∙_}
 use Prim.Native.Nat.{ℕ, _+_, _≤_, _<_}
 use mathlib.Core.List.{List}
-use mathlib.Core.Bool.{Bool, true, false, cond, not, _&&_, true≢false, or-false}
+use mathlib.Core.Bool.{Bool, true, false, not, _&&_, true≢false, or-false}
 use mathlib.Core.Logic.{_⊎_, inl, inr, ⊎-elim}
 use native.Mathlib.Omega.{arith}
 use native.Mathlib.Nat.{eq-zero-or-pos}
@@ -17,7 +17,7 @@ use Rattle.lists.proofs.Sums.{sum, sum-raised}
 use Rattle.kripke.specs.Transitions.{Edge, Graph}
 use Rattle.kripke.specs.Until.{until}
 use Rattle.kripke.proofs.Successors.{edge-state}
-use Rattle.pictures.specs.Inside.{AllMarked, Dropped, Goes, Holds, Marked, Rounded, Settled, Ways, keptMark, rightMark, stuckAt}
+use Rattle.pictures.specs.Inside.{Dropped, Goes, Holds, Marked, Rounded, Settled, keptMark, rightMark, stuckAt}
 use Rattle.pictures.proofs.Closing.{false-goes, false-low}
 
 module _ (S : ℕ) (left ways marks : List ℕ) (s : ℕ) where
@@ -71,13 +71,14 @@ module _ (S : ℕ) (left ways begun : List ℕ) where
   pub dropping-size : (marks : List ℕ) (some : Bool) (s : ℕ) → Dropping S left ways begun marks some s → S ≤ length begun → length marks ≡ length begun
   dropping-size marks some s d room = filled-length _ s begun marks (d .kept) (omega (arith, d .upto))
 
-module _ (S : ℕ) (es : List ℕ) (G : Graph S es) (left ways before after : List ℕ) (some : Bool) (w : Ways S es before ways) (d : Dropped S left ways before after some) where
+-- a round: whichever right row the marks hold for, they hold for it afterwards; there are fewer, or they are settled
+module _ (S : ℕ) (es : List ℕ) (G : Graph S es) (left ways before after : List ℕ) (some : Bool) (r : Rounded S es left before after ways some) where
   -- a state afterwards: stuck and without its mark, or as before
   after-at : (s : ℕ) → s < S → ((stuckAt S left ways before s ≡ true) × (at after s ≡ 0)) ⊎ ((stuckAt S left ways before s ≡ false) × (at after s ≡ at before s))
   after-at s h = go (stuckAt S left ways before s) refl
     where
       here : at after s ≡ keptMark S left ways before s
-      here = filled-at (keptMark S left ways before) S before after (d .marks) s h
+      here = filled-at (keptMark S left ways before) S before after (r .dropped .marks) s h
 
       go : (b : Bool) → stuckAt S left ways before s ≡ b → ((stuckAt S left ways before s ≡ true) × (at after s ≡ 0)) ⊎ ((stuckAt S left ways before s ≡ false) × (at after s ≡ at before s))
       go true e = inl (e, here ∙ kept-off S left ways before s e)
@@ -88,10 +89,10 @@ module _ (S : ℕ) (es : List ℕ) (G : Graph S es) (left ways before after : Li
   stuck-not-false right k s h e z = ⊎-elim (λ p. ⊎-elim (p .2) (onward (p .3)) (false-goes S es G left right s (h, z))) (λ p. true≢false (p .0)) (stuck-parts S left ways before s true e)
     where
       onward : at ways s ≡ S → (t : ℕ) × Edge es s t × ((t < S) × (until true es left right S t ≡ 0)) → ⊥
-      onward none x = ⊎-elim (λ p. omega (arith, p .1 .0)) (λ p. omega (arith, p .1 (x .0) (x .1), k .all (x .0) (x .2 .0) (x .2 .1))) (w s h)
+      onward none x = ⊎-elim (λ p. omega (arith, p .1 .0)) (λ p. omega (arith, p .1 (x .0) (x .1), k .all (x .0) (x .2 .0) (x .2 .1))) (r .led s h)
 
-  keeps : (right : List ℕ) → Holds S es left right before → Holds S es left right after
-  keeps right k =
+  pub round-keeps : (right : List ℕ) → Holds S es left right before → Holds S es left right after
+  round-keeps right k =
       record {
         all = λ s h z. ⊎-elim (λ p. absurd (stuck-not-false right k s h (p .0) z)) (λ p. omega (arith, p .1, k .all s h z)) (after-at s h);
         low = λ s m. ⊎-elim (λ p. absurd (omega (arith, p .1, m .1))) (λ p. k .low s (m .0, omega (arith, p .1, m .1))) (after-at s (m .0));
@@ -100,9 +101,9 @@ module _ (S : ℕ) (es : List ℕ) (G : Graph S es) (left ways before after : Li
   no-more : (s : ℕ) → s < S → at after s ≤ at before s
   no-more s h = ⊎-elim (λ p. omega (arith, p .1)) (λ p. omega (arith, p .1)) (after-at s h)
 
-  fewer : some ≡ true → sum (at after) S < sum (at before) S
-  fewer e =
-      let x = any-where (stuckAt S left ways before) S (sym (d .told) ∙ e) in
+  pub round-fewer : some ≡ true → sum (at after) S < sum (at before) S
+  round-fewer e =
+      let x = any-where (stuckAt S left ways before) S (sym (r .dropped .told) ∙ e) in
       let off : at after (x .0) ≡ 0 = ⊎-elim (λ p. p .1) (λ p. absurd (true≢false (sym (x .2) ∙ p .0))) (after-at (x .0) (x .1)) in
       let on : 0 < at before (x .0) = ⊎-elim (λ p. p .1) (λ p. absurd (true≢false (p .0))) (stuck-parts S left ways before (x .0) true (x .2)) in
       sum-raised (at after) (at before) S (x .0) (x .1) no-more (omega arith)
@@ -110,7 +111,7 @@ module _ (S : ℕ) (es : List ℕ) (G : Graph S es) (left ways before after : Li
   -- a round that takes off no mark
   module _ (e : some ≡ false) where
     never : (s : ℕ) → s < S → stuckAt S left ways before s ≡ false
-    never = any-none (stuckAt S left ways before) S (sym (d .told) ∙ e)
+    never = any-none (stuckAt S left ways before) S (sym (r .dropped .told) ∙ e)
 
     same : (s : ℕ) → s < S → at after s ≡ at before s
     same s h = ⊎-elim (λ p. absurd (true≢false (sym (p .0) ∙ never s h))) (λ p. p .1) (after-at s h)
@@ -122,13 +123,10 @@ module _ (S : ℕ) (es : List ℕ) (G : Graph S es) (left ways before after : Li
     goes s m = ⊎-elim (λ p. absurd (true≢false (sym (p .0)))) (λ p. ⊎-elim (λ z. absurd (omega (arith, m .1, same s (m .0)))) (⊎-elim inl onward) (p .1)) (stuck-parts S left ways before s false (never s (m .0)))
       where
         onward : (at ways s ≡ S → ⊥) → Goes es (at left) (Marked S after) s
-        onward n = ⊎-elim (λ p. inr (at ways s, p .0, still (at ways s) (p .1))) (λ p. absurd (n (p .0))) (w s (m .0))
+        onward n = ⊎-elim (λ p. inr (at ways s, p .0, still (at ways s) (p .1))) (λ p. absurd (n (p .0))) (r .led s (m .0))
 
-    settled : Settled S es left after ways
-    settled = record { goes = goes; led = λ s h. ⊎-elim (λ p. inl (p .0, still (at ways s) (p .1))) (λ p. inr (p .0, λ t x. same t (edge-state S es G s t x) ∙ p .1 t x)) (w s h) }
-
-  pub rounded : Rounded S es left before after ways some
-  rounded = record { keeps = keeps; fewer = fewer; settled = settled }
+    pub round-settled : Settled S es left after ways
+    round-settled = record { goes = goes; led = λ s h. ⊎-elim (λ p. inl (p .0, still (at ways s) (p .1))) (λ p. inr (p .0, λ t x. same t (edge-state S es G s t x) ∙ p .1 t x)) (r .led s h) }
 
 -- the marks before the first round
 module _ (S : ℕ) (es : List ℕ) (G : Graph S es) (left right marks now : List ℕ) (f : Filled (rightMark right) S marks now) where
@@ -142,7 +140,3 @@ module _ (S : ℕ) (es : List ℕ) (G : Graph S es) (left right marks now : List
     where
       unmarked : (x : ℕ) → x < S → 0 < at right x → 0 < at now x → ⊥
       unmarked x l p m = let e : at now x ≡ 0 = filled-at (rightMark right) S marks now f x l ∙ rw (ne-eqb (at right x) 0 (λ z. omega arith)) in omega arith
-
--- the marks after the last
-pub all-marked : (S : ℕ) (es left right before after ways : List ℕ) → Holds S es left right before → Rounded S es left before after ways false → AllMarked S es left right after ways
-all-marked S es left right before after ways h r = record { holds = r .keeps right h; settled = r .settled refl }

@@ -8,7 +8,6 @@ use lib.ListN.{length, set}
 use lib.Dec.{eqb}
 use Rattle.lists.specs.Entries.{at, anyBelow, All}
 use Rattle.lists.specs.Rows.{Filled, fill}
-use Rattle.lists.proofs.Sums.{sum}
 use Rattle.values.specs.Limits.{mostStates}
 use Rattle.values.specs.Rows.{badRow}
 use Rattle.kripke.specs.Transitions.{Edge, Graph, from, to}
@@ -72,11 +71,10 @@ pub record Settled (S : ℕ) (es left marks ways : List ℕ) : Type 0 where
   pub goes : (s : ℕ) → Marked S marks s → Goes es (at left) (Marked S marks) s
   pub led : Ways S es marks ways
 
--- `round`: whichever right row the marks hold for, they hold for it afterwards; there are fewer, or they are settled
+-- `round`: the ways are those of the marks before it, and by them it drops marks
 pub record Rounded (S : ℕ) (es left before after ways : List ℕ) (some : Bool) : Type 0 where
-  pub keeps : (right : List ℕ) → Holds S es left right before → Holds S es left right after
-  pub fewer : some ≡ true → sum (at after) S < sum (at before) S
-  pub settled : some ≡ false → Settled S es left after ways
+  pub led : Ways S es before ways
+  pub dropped : Dropped S left ways before after some
 
 -- `mark`
 pub record AllMarked (S : ℕ) (es left right marks ways : List ℕ) : Type 0 where

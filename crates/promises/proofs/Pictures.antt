@@ -1,13 +1,12 @@
 -- Request 7, from the laws of pictures and of judging.
 use mathlib.Core.Path.{_≡_, refl, sym, ap, ap₂, _∙_}
 use Prim.Native.Nat.{ℕ, _≤_, _<_}
-use mathlib.Core.List.{List, [], _∷_}
-use mathlib.Core.Bool.{true, false, _||_}
+use mathlib.Core.List.{List}
+use mathlib.Core.Bool.{true, false}
 use native.Mathlib.Omega.{arith}
 use lib.ListN.{length}
 use lib.Dec.{leb}
 use borrow.Author.Tests.{lt-leb}
-use Rattle.lists.specs.Causes.{cause, refusalOf}
 use Rattle.values.specs.Rows.{badRow, rowIn, rowValues, storedRow}
 use Rattle.values.specs.declared.verdict.Verdict.{Verdict}
 use Rattle.kripke.specs.Answers.{oppositeRow}
@@ -22,7 +21,7 @@ use Rattle.ctl.proofs.Held.{always-held, eventually-held, until-held}
 use Rattle.pictures.specs.declared.Ending.{Ending}
 use Rattle.pictures.specs.declared.PictureAnswer.{PictureAnswer}
 use Rattle.pictures.specs.declared.PictureAnswer.the-variants as picture
-use Rattle.pictures.specs.Pictures.{Question, asked}
+use Rattle.pictures.specs.Pictures.{asked}
 use Rattle.pictures.specs.Answers.{PicturePromise}
 use Rattle.pictures.proofs.Exists.{false-pictured, pictured-exactly}
 use Rattle.pictures.proofs.Handed.{handed-passes, passes-exactly, picture-or-none}

@@ -1,12 +1,12 @@
 -- `mark` meets its contract: with each round that takes off a mark there are fewer.
-use mathlib.Core.Path.{_≡_, refl, _∙_, subst}
+use mathlib.Core.Path.{_≡_, refl, _∙_}
 use native.Mathlib.Omega.{arith}
 use lib.ListN.{length}
 use borrow.Author.Tests.{not-true, not-false}
 use Rattle.lists.specs.Entries.{at}
 use Rattle.lists.proofs.Sums.{sum}
-use Rattle.pictures.specs.Inside.{Holds, Rounded}
-use Rattle.pictures.proofs.Marking.{all-marked, begun-holds}
+use Rattle.pictures.specs.Inside.{Holds}
+use Rattle.pictures.proofs.Marking.{begun-holds, round-fewer, round-keeps, round-settled}
 use borrow.Author.Needs.{needs}
 use Rattle.pictures.proofs.marks.mark.Statement.{statement}
 use Rattle.pictures.proofs.marks.mark.Tie as tie
@@ -33,13 +33,13 @@ same-length-2 : tie.Need-same-length-2 Inv-loop μ-loop
 same-length-2 c = c .before .before .before .before .before .round .kept .1 .1 .1 .1 .0 ∙ c .before .before .before .before .before .before .before .before .loop .inv .1
 
 returns : tie.Need-returns Inv-loop μ-loop
-returns c = all-marked _ _ _ _ _ _ _ (c .before .before .before .before .before .before .before .before .loop .inv .2) (subst (Rounded _ _ _ _ _ _) (not-true _ (c .if1 .taken)) (c .before .before .before .before .before .round .ensures))
+returns c = let p = c .before .before .before .before .before .before .before .before .before .before .before .before .before .before .before .before .before .before .pre .0 in record { holds = round-keeps _ _ (p .graph) _ _ _ _ _ (c .before .before .before .before .before .round .ensures) _ (c .before .before .before .before .before .before .before .before .loop .inv .2); settled = round-settled _ _ (p .graph) _ _ _ _ _ (c .before .before .before .before .before .round .ensures) (not-true _ (c .if1 .taken)) }
 
 loop-less : tie.Need-loop-less Inv-loop μ-loop
-loop-less c = c .before .before .before .before .before .round .ensures .fewer (not-false _ (c .if1 .left))
+loop-less c = round-fewer _ _ (c .before .before .before .before .before .before .before .before .before .before .before .before .before .before .before .before .before .before .pre .0 .graph) _ _ _ _ _ (c .before .before .before .before .before .round .ensures) (not-false _ (c .if1 .left))
 
 loop-again : tie.Need-loop-again Inv-loop μ-loop
-loop-again c = (c .before .before .before .before .before .round .kept .1 .1 .1 .0 ∙ c .before .before .before .before .before .before .before .before .loop .inv .0, c .before .before .before .before .before .round .kept .1 .1 .1 .1 .0 ∙ c .before .before .before .before .before .before .before .before .loop .inv .1, c .before .before .before .before .before .round .ensures .keeps _ (c .before .before .before .before .before .before .before .before .loop .inv .2))
+loop-again c = (c .before .before .before .before .before .round .kept .1 .1 .1 .0 ∙ c .before .before .before .before .before .before .before .before .loop .inv .0, c .before .before .before .before .before .round .kept .1 .1 .1 .1 .0 ∙ c .before .before .before .before .before .before .before .before .loop .inv .1, round-keeps _ _ (c .before .before .before .before .before .before .before .before .before .before .before .before .before .before .before .before .before .before .pre .0 .graph) _ _ _ _ _ (c .before .before .before .before .before .round .ensures) _ (c .before .before .before .before .before .before .before .before .loop .inv .2))
 
 pub mark-spec : {M : Type 1} → statement M
 mark-spec =

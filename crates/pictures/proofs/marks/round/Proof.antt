@@ -1,5 +1,4 @@
 -- `round` meets its contract: the ways, and the marks that have none.
-use Rattle.pictures.proofs.Marking.{rounded}
 use borrow.Author.Needs.{needs}
 use Rattle.pictures.proofs.marks.round.Statement.{statement}
 use Rattle.pictures.proofs.marks.round.Tie as tie
@@ -17,7 +16,7 @@ same-length-2 : tie.Need-same-length-2
 same-length-2 c = search needs
 
 returns : tie.Need-returns
-returns c = rounded _ _ (c .before .before .before .before .before .before .before .before .before .before .before .before .before .before .pre .0 .graph) _ _ _ _ _ (c .before .before .before .before .before .before .before .find-ways .ensures) (c .before .before .drop-marks .ensures)
+returns c = record { led = c .before .before .before .before .before .before .before .find-ways .ensures; dropped = c .before .before .drop-marks .ensures }
 
 pub round-spec : {M : Type 1} → statement M
 round-spec =

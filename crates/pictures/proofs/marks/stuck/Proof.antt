@@ -1,5 +1,4 @@
 -- `stuck` meets its contract: the tests, one after the other.
-use mathlib.Core.Bool.{not}
 use mir.Facts.{fits-widen}
 use borrow.Author.Tests.{eq-eqb, ne-eqb}
 use Rattle.pictures.specs.Inside.{stuckAt}
