@@ -73,6 +73,7 @@ module _ {A : Type 0} (op : ℕ → ℕ → ℕ) (f : A → ℕ) where
   -- and is no worse than any
   pub best_bounds : (No-worse : ℕ → ℕ → Type 0) → ((a : ℕ) → No-worse a a) → ((a b c : ℕ) → No-worse b c → No-worse (op a b) c) → ((a b : ℕ) → No-worse (op a b) a) → (xs : List A) (x : A) → Memᴰ x xs → No-worse (best op (map f xs)) (f x)
   unfolding best
+  best_bounds R same right left [] x m = elim m [ ]
   best_bounds R same right left (y ∷ []) x (Memᴰ.head e) = subst (λ (z : A). R (f y) (f z)) (sym e) (same (f y))
   best_bounds R same right left (y ∷ []) x (Memᴰ.tail m) = elim m [ ]
   best_bounds R same right left (y ∷ z ∷ zs) x (Memᴰ.head e) = subst (λ (v : A). R (op (f y) (best op (map f (z ∷ zs)))) (f v)) (sym e) (left (f y) (best op (map f (z ∷ zs))))

@@ -55,6 +55,7 @@ pub all_at : (P : ℕ → Type 0) (xs : List ℕ) → All P xs → (i : ℕ) →
 all_at P xs = all_get P 0 xs
 
 pub all_member : {A : Type 0} (P : A → Type 0) (xs : List A) → All P xs → (x : A) → Memᴰ x xs → P x
+all_member {A = A} P [] a x m = elim m [ ]
 all_member P (y ∷ ys) a x (Memᴰ.head e) = subst P (sym e) a.0
 all_member P (y ∷ ys) a x (Memᴰ.tail m) = all_member P ys a.1 x m
 

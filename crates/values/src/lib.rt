@@ -4,6 +4,8 @@
 //   verdict   false, unknown, true, with not, and, or
 //   rows      a row of verdicts as it is stored, written and read
 //   signs     what stands between the numbers of a line
+#![tactic(auto)]
+
 pub mod limits;
 pub mod rows;
 pub mod signs;

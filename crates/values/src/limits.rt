@@ -25,7 +25,7 @@ pub const MOST_NODE_NUMBERS: usize = 3 * MOST_NODES;
 // Of the verdict space, in bytes: a stored row for each node.
 pub const MOST_VERDICTS: usize = MOST_NODES * MOST_STATES;
 
-#[derive(Drop)]
+#[derive(Clone, Copy)]
 pub struct Limits {
     pub states: usize,
     pub atoms: usize,

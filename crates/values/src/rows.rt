@@ -9,7 +9,7 @@ use crate::limits::MOST_STATES;
 use crate::verdict::{Made, Verdict};
 
 // A stored row, read: whether it is one of so many states, and its values, the rest 0.
-#[derive(Drop)]
+#[derive(Clone, Copy)]
 pub struct Row {
     pub valid: bool,
     pub values: [u8; MOST_STATES],

@@ -3,11 +3,11 @@ ghost use Rattle.std.specs.Prelude.{◌≡◌, min, max};
 ghost use Rattle.values.specs.Values.{neg};
 ghost use Rattle.values.specs.Answers.{verdict, verdict_of};
 
-#[derive(Drop)]
+#[derive(Clone, Copy)]
 pub struct Verdict(pub u8);
 
 // What a number makes: a verdict, or none.
-#[derive(Drop)]
+#[derive(Clone, Copy)]
 pub enum Made {
     One(Verdict),
     None,

@@ -1,0 +1,18 @@
+-- `some_above` meets its contract: a search through the entries.
+use mathlib.Core.Path.{◌≡◌, sym}
+use Prim.Native.Nat.{ℕ, ◌-◌, ◌≤◌}
+use mathlib.Core.Bool.{false}
+use native.Mathlib.Omega.{arith}
+use lib.Dec.{ltb}
+use borrow.Author.Tests.{lt-ltb, le-ltb}
+use borrow.Author.Rules.{rules}
+use Rattle.values.specs.Rows.{some_above}
+use Rattle.lists.specs.Entries.{any_below, at}
+use Rattle.lists.proofs.Search.{any_all, any_found, any_more, any_zero}
+use Rattle.values.proofs.rows.some_above.Given as goal
+
+abbrev pub invariant-loop-i : goal.invariant-loop-i
+invariant-loop-i l = (l.i ≤ l.n) × (any_below (λ (j : ℕ). ltb l.value (at l.list j)) l.i ≡ false)
+
+abbrev pub decreases-loop-i : goal.decreases-loop-i
+decreases-loop-i l = l.n - l.i
