@@ -3,6 +3,8 @@
 //   put   bytes, letters and digits, one behind the other
 //
 // specs/Lines says what a line is, specs/Answers what each call promises.
+#![tactic(auto)]
+
 use values::limits::MOST_STATES;
 use values::rows::read_row;
 use values::verdict::Verdict;
@@ -23,7 +25,7 @@ pub const MOST_PATH_LINE: usize = 6 * MOST_STATES + 5;
 pub const MOST_LINE: usize = MOST_STATES + 5;
 
 // The bytes of the longest line of a path, and of the longest other line.
-#[derive(Drop)]
+#[derive(Clone, Copy)]
 pub struct Lengths {
     pub line: usize,
     pub path: usize,
@@ -40,7 +42,7 @@ pub fn longest() -> Lengths
 }
 
 // What writing a line answers. Only `Bytes` changes the buffer.
-#[derive(Drop)]
+#[derive(Clone, Copy)]
 pub enum Written {
     // So many bytes stand at the front of the buffer; the rest of it stays.
     Bytes(usize),

@@ -27,6 +27,7 @@ mem_each g (t ∷ ts) w m =
 
 each_mem : (g : ℕ → List (List ℕ)) (ts : List ℕ) (t : ℕ) (w : List ℕ) → Memᴰ t ts → Memᴰ w (g t) → Memᴰ w (each g ts)
 unfolding each
+each_mem g [] t w m k = elim m [ ]
 each_mem g (x ∷ ts) t w (Memᴰ.head e) k = Memᴰ.append_left (each g ts) (subst (λ (y : ℕ). Memᴰ w (g y)) e k)
 each_mem g (x ∷ ts) t w (Memᴰ.tail m) k = Memᴰ.append_right (g x) (each_mem g ts t w m k)
 

@@ -13,7 +13,7 @@ use values::limits::{MOST_STATES, MOST_TRANSITION_NUMBERS};
 
 // The number of the refusal, or 0 and for each state where its transitions begin, and behind the last
 // state how many there are. The rest is 0, and after a refusal all of it is.
-#[derive(Drop)]
+#[derive(Clone, Copy)]
 pub struct Transitions {
     pub refusal: u8,
     pub begins: [u16; MOST_STATES + 1],

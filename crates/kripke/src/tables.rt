@@ -7,7 +7,7 @@ use values::limits::MOST_STATES;
 use values::rows::read_row;
 
 // The number of the refusal, or 0; where each state's transitions begin; the values of both rows. What is refused by itself is all zeros.
-#[derive(Drop)]
+#[derive(Clone, Copy)]
 pub struct Tables {
     pub refusal: u8,
     pub begins: [u16; MOST_STATES + 1],

@@ -8,7 +8,7 @@ use native.Mathlib.Nat.{mul_assoc, mul-one, mul-le-mul_right, one-mul, pow-succ'
 use native.Mathlib.Omega.{arith}
 use lib.ListN.{length, drop}
 use lib.Pow.{pow-add}
-use lib.Dec.{leb, ltb, eqb}
+use lib.Dec.{leb, ltb}
 use borrow.Author.Tests.{leb-true, ltb-true}
 use Rattle.lists.proofs.Tests.{and_parts}
 use Rattle.numerals.specs.Texts.{has, before, behind, begins_with}

@@ -11,7 +11,7 @@ use lib.Ieee.{nan, inf}
 use borrow.Author.Tests.{lt-ltb, le-ltb, le-leb, lt-leb}
 use Rattle.numerals.specs.Texts.{has, before, behind, begins_with, same}
 use Rattle.numerals.specs.Wholes.{most_digits, minus, digits_from, whole, made, signed}
-use Rattle.numerals.specs.Decimals.{point, exponent_sign, next, pointed, mantissa, exponent}
+use Rattle.numerals.specs.Decimals.{point, exponent_sign, pointed, mantissa, exponent}
 use Rattle.numerals.specs.Doubles.{nan_word, inf_word, scaled, decimal, magnitude, double}
 
 module _ (front fraction : List ℕ) where

@@ -19,7 +19,7 @@ const TENS: [f64; 23] = [
 
 const MOST_POWER: u64 = 22;
 
-#[derive(Drop)]
+#[derive(Clone, Copy)]
 pub enum Double {
     Is(f64),
     None,

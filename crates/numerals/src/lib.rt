@@ -5,6 +5,8 @@
 //   wholes     whole numbers, without and with a sign
 //   decimals   a decimal's digits and its power of ten
 //   doubles    the double nearest to a decimal, and the infinities and NaN
+#![tactic(auto)]
+
 mod decimals;
 pub mod doubles;
 pub mod texts;

@@ -8,14 +8,14 @@ use crate::texts::{begins_with, rest};
 
 pub(crate) const MOST_DIGITS: usize = 15;
 
-#[derive(Drop)]
+#[derive(Clone, Copy)]
 pub enum Whole {
     Is(u64),
     None,
 }
 
 // Whether it is below zero or written so, and its size.
-#[derive(Drop)]
+#[derive(Clone, Copy)]
 pub enum Signed {
     Is(bool, u64),
     None,

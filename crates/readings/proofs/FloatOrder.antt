@@ -1,6 +1,6 @@
 -- IEEE 754's order: through a middle value it goes on, of two values that are no NaN one is at most the other, and a NaN is at most nothing.
 -- A finite value is the difference of two fractions, one of which is 0, so that the four pairs of signs are one inequality.
-use mathlib.Core.Path.{◌≡◌, refl, sym, ap, ◌∙◌}
+use mathlib.Core.Path.{◌≡◌, refl, sym, ◌∙◌}
 use mathlib.Core.Bool.{Bool, true, false, ◌&&◌, ◌||◌, true≢false}
 use mathlib.Core.Logic.{◌⊎◌, inl, inr, ⊎_elim}
 use Prim.Native.Nat.{ℕ, ◌+◌, ◌*◌, ◌≤◌, ◌<◌}
@@ -8,7 +8,7 @@ use native.Mathlib.Nat.{zero-mul, add-mul, mul_right_comm, mul-le-mul_right, le_
 use native.Mathlib.Omega.{arith}
 use lib.Dec.{ltb, eqb}
 use lib.IntN.{ℤ}
-use lib.Ieee.{Float, nan, inf, fin, up, down, lt, eq, le, below, level}
+use lib.Ieee.{Float, nan, inf, fin, up, down, le, below, level}
 use lib.Ieee.Positive.{den_pos}
 use borrow.Author.Tests.{ltb-true, lt-ltb, eqb-true, eq-eqb}
 use Rattle.lists.proofs.Numbers.{lt_or_le}

@@ -1,7 +1,7 @@
 -- What a label says of the values that were possible: over any comparison that is an order, of every value between the ends.
 use mathlib.Core.Path.{◌≡◌, refl, sym, ◌∙◌}
 use Prim.Native.Nat.{ℕ}
-use mathlib.Core.Bool.{Bool, true, false, not, cond, ◌&&◌, ◌||◌, and-false, or-true, true≢false}
+use mathlib.Core.Bool.{Bool, true, false, not, cond, ◌||◌, and-false, or-true, true≢false}
 use mathlib.Core.Logic.{◌⊎◌, inl, inr, ⊎_elim}
 use native.Mathlib.Omega.{arith}
 use Rattle.lists.proofs.Tests.{and_both, and_parts}

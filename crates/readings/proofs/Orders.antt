@@ -1,12 +1,12 @@
 -- What gates ask of a comparison, and that voltages and delays have it. Only a NaN isn't at most itself.
 use mathlib.Core.Path.{◌≡◌, refl, sym}
-use mathlib.Core.Bool.{Bool, true, false, true≢false}
+use mathlib.Core.Bool.{Bool, true, true≢false}
 use mathlib.Core.Logic.{◌⊎◌, inl, inr, ⊎_elim}
-use Prim.Native.Nat.{ℕ, ◌≤◌, ◌<◌}
+use Prim.Native.Nat.{◌≤◌, ◌<◌}
 use native.Mathlib.Omega.{arith}
 use lib.IntN.{ℤ, pos, negsuc}
 use lib.Signed.{le_z}
-use lib.Ieee.{Float, le}
+use lib.Ieee.{le}
 use borrow.Author.Tests.{leb-true, le-leb}
 use Rattle.lists.proofs.Numbers.{lt_or_le}
 use Rattle.readings.proofs.FloatOrder.{le_trans, le_total, le_first, le_second}

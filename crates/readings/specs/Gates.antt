@@ -1,5 +1,5 @@
 -- A gate and a measurement over any comparison: IEEE 754's for voltages, that of whole numbers for delays.
-use Rattle.std.specs.Prelude.{ℕ, Bool, true, false, not, cond, ◌&&◌, ◌||◌}
+use Rattle.std.specs.Prelude.{ℕ, Bool, true, not, cond, ◌&&◌, ◌||◌}
 
 -- at least x, at most x, or between a and b
 pub data Limits (A : Type 0) : Type 0 where

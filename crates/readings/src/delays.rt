@@ -15,7 +15,7 @@ pub const LEAST_DELAY: i64 = -2147483648;
 
 pub const GREATEST_DELAY: i64 = 2147483647;
 
-#[derive(Drop)]
+#[derive(Clone, Copy)]
 pub enum DelayGate {
     AtLeast(i32),
     AtMost(i32),

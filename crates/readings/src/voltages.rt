@@ -9,13 +9,13 @@ use crate::Labelled;
 use values::verdict::Verdict;
 
 // The least and the greatest possible value.
-#[derive(Drop)]
+#[derive(Clone, Copy)]
 pub struct Reading {
     pub least: f64,
     pub greatest: f64,
 }
 
-#[derive(Drop)]
+#[derive(Clone, Copy)]
 pub enum Gate {
     AtLeast(f64),
     AtMost(f64),
