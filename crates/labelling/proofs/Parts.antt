@@ -11,9 +11,9 @@ use Rattle.numerals.specs.Texts.{has, before, behind, begins_with}
 use Rattle.numerals.specs.Wholes.{whole, signed, made}
 use Rattle.numerals.specs.Doubles.{double}
 use Rattle.numerals.proofs.Cuts.{front_is, rest_is, none_there, one_there}
-use Rattle.readings.specs.Gates.{Limits, at_least, at_most, between}
+use Rattle.readings.specs.Gates.{at_least, at_most, between}
 use Rattle.labelling.specs.Keys.{key_at_least, key_at_most, key_between, key_volts, key_ticks, blank, most_line}
-use Rattle.labelling.specs.Lines.{Said, nothing, pair, gate, value_of, in_range, limit, turned, counter, volts_said, ticks_said, said_both, said}
+use Rattle.labelling.specs.Lines.{nothing, pair, gate, value_of, in_range, limit, turned, counter, volts_said, ticks_said, said_both, said}
 
 module _ {A : Type 0} (number : List ℕ → Option A) (xs : List ℕ) where
   pub pair_none : has comma xs ≡ false → pair number xs ≡ none

@@ -15,7 +15,6 @@ use Rattle.readings.specs.declared.delays.DelayGate.{DelayGate}
 use Rattle.labelling.specs.declared.volts.TwoVolts.TheVariants as twoVolts
 use Rattle.labelling.specs.declared.volts.VoltGate.TheVariants as voltGate
 use Rattle.labelling.specs.declared.ticks.Limit.TheVariants as oneLimit
-use Rattle.labelling.specs.declared.ticks.TwoLimits.TheVariants as twoLimits
 use Rattle.labelling.specs.declared.ticks.Counter.TheVariants as oneCounter
 use Rattle.labelling.specs.declared.ticks.TwoCounters.TheVariants as twoCounters
 use Rattle.labelling.specs.declared.ticks.TickGate.TheVariants as tickGate

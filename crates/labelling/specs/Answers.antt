@@ -1,5 +1,5 @@
 -- What a line is answered with, for every line.
-use Rattle.std.specs.Prelude.{◌≡◌, ℕ, List, ℤ, Float}
+use Rattle.std.specs.Prelude.{◌≡◌, ℕ, List, ℤ}
 use Rattle.std.specs.Int.Signed.{le_z}
 use Rattle.std.specs.Float.Ieee.{le}
 use Rattle.readings.specs.declared.Labelled.{Labelled}

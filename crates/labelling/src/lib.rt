@@ -3,6 +3,8 @@
 //
 //   volts   voltages in pairs, gates of voltages
 //   ticks   limits and counters in pairs, gates of delays
+#![tactic(auto)]
+
 mod ticks;
 mod volts;
 

@@ -2,6 +2,8 @@
 //
 //   refusals   the causes 2 to 5 and 10 to 13, and the lowest number of all
 //   naming     the cause 22: which atoms the nodes name
+#![tactic(auto)]
+
 mod naming;
 mod refusals;
 
@@ -12,7 +14,7 @@ ghost use Rattle.model.specs.Answers.{examined};
 use values::limits::MOST_STATES;
 
 // The lowest number of 1 to 13 and 22 that applies, or 0, and where each state's transitions begin, as kripke's reader has it.
-#[derive(Drop)]
+#[derive(Clone, Copy)]
 pub struct Examined {
     pub refusal: u8,
     pub begins: [u16; MOST_STATES + 1],

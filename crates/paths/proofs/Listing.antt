@@ -14,10 +14,12 @@ use Rattle.paths.specs.Order.{Among, Ascending, Smaller}
 use Rattle.paths.proofs.Fits.{Rises, succs_rise}
 
 pub mem_among : (r : List ℕ) (ps : List (List ℕ)) → Memᴰ r ps → Among r ps
+mem_among r [] x' = elim x' [ ]
 mem_among r (p ∷ ps) (Memᴰ.head e) = inl (sym e)
 mem_among r (p ∷ ps) (Memᴰ.tail m) = inr (mem_among r ps m)
 
 pub among_mem : (r : List ℕ) (ps : List (List ℕ)) → Among r ps → Memᴰ r ps
+among_mem r [] x' = elim x' [ ]
 among_mem r (p ∷ ps) (inl e) = Memᴰ.head (sym e)
 among_mem r (p ∷ ps) (inr m) = Memᴰ.tail (among_mem r ps m)
 
@@ -75,6 +77,7 @@ among_each g [] r m = absurd m
 among_each g (t ∷ ts) r m = ⊎_elim (λ k. (t, Memᴰ.head refl, k)) (λ k. let x = among_each g ts r k in (x.0, Memᴰ.tail x.1, x.2)) (among_split r (g t) (each g ts) m)
 
 above_member : (x : ℕ) (ts : List ℕ) → All (λ (y : ℕ). x < y) ts → (t : ℕ) → Memᴰ t ts → x < t
+above_member x [] a t x3 = elim x3 [ ]
 above_member x (y ∷ ts) a t (Memᴰ.head e) = omega (arith, a.0)
 above_member x (y ∷ ts) a t (Memᴰ.tail m) = above_member x ts a.1 t m
 

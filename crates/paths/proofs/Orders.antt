@@ -7,10 +7,15 @@ use native.Mathlib.Omega.{arith}
 use Rattle.paths.specs.Order.{Least, Smaller}
 
 pub smaller_irrefl : (p : List ℕ) → Smaller p p → ⊥
+smaller_irrefl [] x' = elim x' [ ]
 smaller_irrefl (a ∷ p) (inl h) = omega arith
 smaller_irrefl (a ∷ p) (inr h) = smaller_irrefl p h.1
 
 pub smaller_trans : (p q r : List ℕ) → Smaller p q → Smaller q r → Smaller p r
+smaller_trans [] [] r x y = elim x [ ]
+smaller_trans [] (b ∷ q) [] x y = elim y [ ]
+smaller_trans (a ∷ p) [] r x y = elim x [ ]
+smaller_trans (a ∷ p) (b ∷ q) [] x y = elim y [ ]
 smaller_trans [] (b ∷ q) (c ∷ r) x y = tt
 smaller_trans (a ∷ p) (b ∷ q) (c ∷ r) (inl x) (inl y) = inl (omega arith)
 smaller_trans (a ∷ p) (b ∷ q) (c ∷ r) (inl x) (inr y) = inl (omega (arith, y.0))

@@ -1,6 +1,6 @@
 -- The successors of a state as its transitions are passed one after the other, and what `has` and `first_fit` say of them.
 use mathlib.Core.Path.{◌≡◌, refl, sym, ap, ◌∙◌}
-use Prim.Native.Nat.{ℕ, suc, ◌+◌, ◌*◌, ◌-◌, ◌≤◌, ◌<◌}
+use Prim.Native.Nat.{ℕ, suc, ◌+◌, ◌-◌, ◌≤◌, ◌<◌, ◌*◌}
 use mathlib.Core.List.Memᴰ
 use mathlib.Core.List.{List, [], ◌∷◌, Memᴰ}
 use mathlib.Core.Bool.{Bool, true, false, cond, ◌&&◌, ◌||◌, true≢false}
@@ -11,12 +11,12 @@ use lib.ListN.{length}
 use lib.Dec.{eqb, leb}
 use borrow.Author.Tests.{le-leb, lt-leb, eq-eqb, ne_eqb, eqb-true, eqb-false}
 use Rattle.lists.specs.Entries.{at}
-use Rattle.lists.proofs.Entries.{all_at}
 use Rattle.lists.proofs.Tests.{and_both, and_fails, or_fails, or_left, or_neither}
 use Rattle.kripke.specs.Transitions.{Edge, count, ends, succs, to}
 use Rattle.kripke.proofs.Successors.{edge_succ, succ_edge}
 use Rattle.kripke.specs.Inside.{Ready}
 use Rattle.paths.specs.Inside.{first_fit, has}
+use Rattle.lists.proofs.Entries.{all_at}
 
 -- one transition more, and none left
 module _ (es : List ℕ) (k e : ℕ) where

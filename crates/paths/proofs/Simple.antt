@@ -1,5 +1,5 @@
 -- Where there is a witness there is one with at most S entries: a state that comes twice is cut out, and S states leave no room for more.
-use mathlib.Core.Path.{◌≡◌}
+use mathlib.Core.Path.{◌≡◌, sym, subst}
 use Prim.Native.Nat.{ℕ, zero, suc, ◌≤◌, ◌<◌}
 use mathlib.Core.List.{List, [], ◌∷◌}
 use mathlib.Core.Logic.{◌⊎◌, inl, inr, ⊎_elim}
@@ -49,7 +49,7 @@ module _ (es : List ℕ) (L R : ℕ → Type 0) where
   cut s t (u ∷ r) f d =
       let i = cut s u r f.2 d.1 in
       ⊎_elim
-      (λ e. inr (u ∷ r, rw e f, rw e d, omega arith))
+      (λ e. inr (u ∷ r, rw e f, subst (λ (z : ℕ). Distinct (z ∷ u ∷ r)) (sym e) d, omega arith))
       (λ n. ⊎_elim (λ o. inl (n, o)) (λ x. inr (x.0, x.1, x.2, omega (arith, x.3))) i)
       (same_or_not s t)
 

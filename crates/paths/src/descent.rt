@@ -46,7 +46,7 @@ fn descend(
 )
     requires ready { Ready states transitions.now begins.now }
     requires layers { Layers states transitions.now distances.now }
-    requires path_nonzero { (0 < length path.old) × (at distances.now start ≡ length path.old) }
+    requires path_fits { (0 < length path.old) × (at distances.now start ≡ length path.old) }
     ensures { Descended transitions.now (at distances.now) start path.new }
 {
     path[0] = start as u16;
@@ -70,7 +70,7 @@ fn advance(
 ) -> bool
     requires ready { Ready states transitions.now begins.now }
     requires layers { Layers states transitions.now distances.now }
-    requires path_nonzero { (0 < length path.old) × Down transitions.now (at distances.now) (at path.old 0) (drop 1 path.old) }
+    requires path_down { (0 < length path.old) × Down transitions.now (at distances.now) (at path.old 0) (drop 1 path.old) }
     ensures { Advanced transitions.now (at distances.now) path.old path.new result }
 {
     let n = path.len();
@@ -107,7 +107,7 @@ pub(crate) fn first_path(
 ) -> FirstAnswer
     requires ready { Ready states transitions.now begins.now }
     requires layers { Layers states transitions.now distances.now }
-    requires start_lt_states { start < states }
+    requires start_state { start < states }
     ensures { FirstFound transitions.now (at distances.now) start path.old path.new result }
 {
     let n = distances[start] as usize;
@@ -138,7 +138,7 @@ pub(crate) fn next_path(
 ) -> NextAnswer
     requires ready { Ready states transitions.now begins.now }
     requires layers { Layers states transitions.now distances.now }
-    requires path_nonzero { (0 < length path.old) × (at path.old 0 < states) }
+    requires path_starts { (0 < length path.old) × (at path.old 0 < states) }
     requires down { at distances.now (at path.old 0) ≡ length path.old → Down transitions.now (at distances.now) (at path.old 0) (drop 1 path.old) }
     ensures { NextFound transitions.now (at distances.now) path.old path.new result }
 {

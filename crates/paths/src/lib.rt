@@ -6,6 +6,8 @@
 //   descent   down to the smallest next state, and on to the next larger list
 //   finding   these put together, for tables that are not refused
 //   tests     the tests of 15
+#![tactic(auto)]
+
 ghost use Rattle.paths.specs.Questions.{asked};
 ghost use Rattle.paths.specs.Answers.{FirstPromise, NextPromise, CheckPromise};
 
@@ -18,7 +20,7 @@ mod measure;
 mod tests;
 
 // The length of the path, that there is none, or the number of a refusal.
-#[derive(Drop)]
+#[derive(Clone, Copy)]
 pub enum FirstAnswer {
     Path(usize),
     None,
@@ -26,7 +28,7 @@ pub enum FirstAnswer {
 }
 
 // The next path is there, there are no more, or the number of a refusal.
-#[derive(Drop)]
+#[derive(Clone, Copy)]
 pub enum NextAnswer {
     Path,
     End,
@@ -34,7 +36,7 @@ pub enum NextAnswer {
 }
 
 // The list is a witness, it is none, or the number of a refusal.
-#[derive(Drop)]
+#[derive(Clone, Copy)]
 pub enum CheckAnswer {
     Yes,
     No,
