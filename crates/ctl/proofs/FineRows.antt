@@ -14,7 +14,6 @@ use Rattle.ctl.specs.Operators.{RowFine}
 use Rattle.ctl.specs.Nodes.{node_row, node_value}
 use Rattle.ctl.specs.Rows.{rows_from, stored_rows}
 use Rattle.values.specs.Rows.{row_begin, row_size, stored_row}
-use Rattle.kripke.specs.Until.{next}
 use Rattle.values.specs.Values.{top}
 use Rattle.lists.specs.Entries.{All, at}
 use Rattle.ctl.proofs.NodeLists.{first_rows, row_more, rows_count, rows_next, rows_none, rows_whole}
@@ -28,7 +27,7 @@ unfolding rows_from node_row
 rows_wide m rows w [] = w
 rows_wide m rows w (k ∷ []) = w
 rows_wide m rows w (k ∷ a ∷ []) = w
-rows_wide m rows w (k ∷ a ∷ b ∷ ns) = rows_wide m _ (all_more rows w (tab (node_value m (kind_of k) a (get_or rows a []) (get_or rows b [])) m.states) (length_tab _ m.states)) ns
+rows_wide m rows w (k ∷ a ∷ b ∷ ns) = rows_wide m (rows ++ (_ ∷ [])) (all_more rows w (tab (node_value m (kind_of k) a (get_or rows a []) (get_or rows b [])) m.states) (length_tab _ m.states)) ns
   where
     all_more : (rows : List (List ℕ)) → All (λ (row : List ℕ). length row ≡ m.states) rows → (row : List ℕ) → length row ≡ m.states → All (λ (row : List ℕ). length row ≡ m.states) (rows ++ (row ∷ []))
     all_more [] w row e = (e, tt)

@@ -83,7 +83,7 @@ module _ (Rel : ℕ → ℕ → Type 0) (K : Kleene Rel) where
     rows_from_lem xs ys h (k ∷ []) = h
     rows_from_lem xs ys h (k ∷ a ∷ []) = h
     rows_from_lem xs ys h (k ∷ a ∷ b ∷ ns) =
-        rows_from_lem _ _
+        rows_from_lem (xs ++ (_ ∷ [])) (ys ++ (_ ∷ []))
         (rows_more xs ys h _ _ (tab_related _ _ m.states (node_related (kind_of k) a (get_or xs a []) (get_or ys a []) (get_or xs b []) (get_or ys b []) (h.here a) (h.here b))))
         ns
 

@@ -12,7 +12,6 @@ use Rattle.values.specs.Values.{choose}
 use Rattle.lists.specs.Choosing.{best}
 use Rattle.lists.specs.Entries.{at}
 use Rattle.lists.specs.Rows.{Filled}
-use Rattle.ctl.proofs.Copies.{still}
 use Rattle.kripke.proofs.Rounds.{rests_after}
 use Rattle.kripke.proofs.Steps.{until_one, until_step}
 use Rattle.kripke.proofs.Successors.{succs_states}

@@ -3,6 +3,8 @@
 //   until   E and A by rounds of one step back, each one pass over the transitions
 //   nodes   the row of one node from its operands' rows
 //   rows    where the rows lie in the verdict space, and the verdict over the initial states
+#![tactic(auto)]
+
 mod nodes;
 mod rows;
 mod until;
@@ -13,7 +15,7 @@ ghost use Rattle.ctl.specs.Answers.{Judging};
 use values::verdict::Verdict;
 
 // The rows stand in the verdict space and this is the model's verdict, or judging is refused with this number.
-#[derive(Drop)]
+#[derive(Clone, Copy)]
 pub enum Judged {
     Verdicts(Verdict),
     Refused(u8),

@@ -12,7 +12,7 @@ use Rattle.formula.specs.Text.{text_of}
 use Rattle.formula.specs.Answers.{formula, refusal, Accepted, PartAt, Yields, YieldsPart, tight, unyielded, prints, FormulaPrinted}
 use Rattle.formula.specs.declared.Printed.TheVariants.{Bytes, Refused}
 use Rattle.formula.specs.declared.parts.Part.{Part}
-use Rattle.formula.specs.declared.parts.Part.TheVariants.{Of, None}
+use Rattle.formula.specs.declared.parts.Part.TheVariants.{None, Of}
 use Rattle.formula.specs.InsidePrinting.{Ended, PartFound, PartAccepted, PartYielded, Writable, Written}
 use Rattle.formula.proofs.Sizes.{size_some, nodes_length}
 use Rattle.formula.proofs.Standing.{stands_whole, part_stands, stands_part}

@@ -1,9 +1,9 @@
 -- What holds of each prefix, of each pair and of each bracket, gone through one by one.
 use mathlib.Core.Path.{◌≡◌, refl, ap}
-use native.Mathlib.Omega.{arith}
 use Rattle.formula.specs.Tree.{Prefix, NOT, EX, AX, EF, AF, EG, AG, Pair, AND, EU, AU, OR, IMPLIES}
 use Rattle.formula.specs.Text.{opening}
 use Rattle.formula.specs.Inside.{Bracket, plain, some, every, opened, bracket_of, bracket_number, PairIn}
+use native.Mathlib.Omega.{arith}
 
 pub each_prefix : (P : Prefix → Type 0) → P NOT → P EX → P AX → P EF → P AF → P EG → P AG → (p : Prefix) → P p
 each_prefix P a b d e f g h NOT = a

@@ -9,11 +9,14 @@ use Rattle.lists.specs.Rows.{Put}
 use Rattle.lists.proofs.Placed.{put_then}
 use Rattle.values.specs.Limits.{most_formula, most_nodes}
 use Rattle.formula.specs.declared.signs.Sign.{Sign}
+use Rattle.formula.specs.declared.reading.Parsed.{Parsed}
+use Rattle.formula.specs.declared.reading.Parsed.TheVariants as parsed
 use Rattle.formula.specs.Tree.{two, size, AtomsBelow}
 use Rattle.formula.specs.Text.{closing, text_of}
 use Rattle.formula.specs.Nodes.{pair_kind, nodes_from}
-use Rattle.formula.specs.Inside.{begins, Bracket, opened, bracket_number, PairIn, middle_in, kind_in, Only, NoneOf, Any, Term, NodePut, Found, Placed}
-use Rattle.formula.proofs.Marks.{There, SignThere, opened_some, middle_some}
+use Rattle.formula.specs.Inside.{begins, Bracket, opened, bracket_number, PairIn, middle_in, kind_in, SignAt, MiddleAt, Only, NoneOf, Any, Term, NodePut, Found, Parses, Placed}
+use Rattle.formula.proofs.Marks.{There, SignThere, sign_there, opened_some, middle_some}
+use Rattle.formula.proofs.Founds.{found_of}
 use Rattle.formula.proofs.Shapes.{two_behind}
 use Rattle.formula.proofs.OneReading.{only_two, none_first, none_middle, none_second, none_closing}
 
@@ -29,6 +32,18 @@ pub record MiddleRead (s : List ℕ) (place n : ℕ) (before mid : List ℕ) (r 
 pub record RightRead (s : List ℕ) (place n : ℕ) (before mid late : List ℕ) (r : Sign) (behind m : ℕ) (u : Sign) (end k : ℕ) : Type 0 where
   pub front : MiddleRead s place n before mid r behind m u
   pub right : Found s (behind + u.size) m mid late end k
+
+pub left_read : {s before mid : List ℕ} {place n behind m : ℕ} {r : Sign} {p : Parsed} → Placed s place n before → SignAt opened bracket_number s place r → (r.size ≡ 0 → ⊥)
+    → p ≡ parsed.To behind m → Parses Any s (place + r.size) n before mid p → LeftRead s place n before mid r behind m
+left_read o a n e p = record { bracket = sign_there opened bracket_number _ _ _ o.within a n; left = found_of Any _ _ _ _ _ _ _ _ e p }
+
+pub middle_read : {s before mid : List ℕ} {place n behind m : ℕ} {r u : Sign} → LeftRead s place n before mid r behind m
+    → ((b : Bracket) → r.kind ≡ bracket_number b → MiddleAt b s behind u) → (u.size ≡ 0 → ⊥) → MiddleRead s place n before mid r behind m u
+middle_read x a n = record { front = x; join = sign_there middle_in kind_in _ _ _ x.left.inside (a x.bracket.which x.bracket.kind) n }
+
+pub right_read : {s before mid late : List ℕ} {place n behind m end k : ℕ} {r u : Sign} {p : Parsed} → MiddleRead s place n before mid r behind m u
+    → p ≡ parsed.To end k → Parses Any s (behind + u.size) m mid late p → RightRead s place n before mid late r behind m u end k
+right_read x e p = record { front = x; right = found_of Any _ _ _ _ _ _ _ _ e p }
 
 -- no more nodes than bytes behind the left part
 pub few_left : {s : List ℕ} {place n behind m : ℕ} {before mid : List ℕ} {r : Sign} → LeftRead s place n before mid r behind m → n ≤ place → m ≤ behind

@@ -6,7 +6,7 @@ use native.Mathlib.Omega.{arith}
 use lib.ListN.{length}
 use Rattle.values.specs.Limits.{most_atoms, most_nodes}
 use Rattle.values.specs.Signs.{decimal}
-use Rattle.formula.specs.Tree.{Formula, TRUE, ATOM, one, two, size, Named, AtomsBelow}
+use Rattle.formula.specs.Tree.{Formula, TRUE, ATOM, one, two, Named, AtomsBelow}
 use Rattle.formula.specs.Text.{text_of}
 use Rattle.formula.specs.declared.parts.Node.{Node}
 use Rattle.formula.specs.declared.parts.Part.TheVariants.{Of, None}

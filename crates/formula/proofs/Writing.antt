@@ -1,10 +1,9 @@
 -- The text of a formula put piece by piece: that the space has room for each piece, and that together they are the text.
 use Prim.Native.Nat.{ℕ, ◌+◌, ◌-◌, ◌<◌, ◌≤◌}
 use mathlib.Core.Path.{◌≡◌, ap, sym, ◌∙◌, subst}
-use mathlib.Core.List.{List, [], ◌++◌, append-nil, append_assoc}
+use mathlib.Core.List.{List, ◌++◌, [], append-nil, append_assoc}
 use native.Mathlib.Omega.{arith}
 use lib.ListN.{length, take, drop, length-drop, drop_of_length-le}
-use lib.Seq.{take_all, take-length, drop-drop}
 use Rattle.lists.specs.Rows.{Put}
 use Rattle.lists.proofs.Placed.{put_then}
 use Rattle.formula.specs.Tree.{Formula, TRUE, ATOM, one, two}
@@ -14,6 +13,9 @@ use Rattle.formula.specs.InsidePrinting.{Sort, sort_of, takes, front, leaf_text,
 use Rattle.formula.proofs.Sizes.{length_prefixed, length_joined}
 use Rattle.formula.proofs.Sorts.{sort_in, takes_few}
 use Rattle.formula.proofs.Roots.{node_sort, LeafRoot, is_truth, is_atom, leaf_root, PrefixRoot, prefix_root}
+use lib.Seq.{take_all, take-length, drop-drop}
+
+-- ---- no operand
 
 -- bytes copied to the front of the rest of a space
 pub put_copied : {bytes text part : List ℕ} {place n : ℕ} → place + length bytes ≤ length text → n ≡ length bytes

@@ -8,6 +8,8 @@
 //   printing  its text, put into a space
 //
 // specs/Tree says what a formula is, Text how it is written, Nodes its node list, Meaning its value; Answers what the calls promise.
+#![tactic(auto)]
+
 use values::limits::{MOST_FORMULA, MOST_NODE_NUMBERS, MOST_NODES};
 
 mod atoms;
@@ -25,7 +27,7 @@ use printing::write;
 use reading::{Parsed, formula};
 
 // What reading answers.
-#[derive(Drop)]
+#[derive(Clone, Copy)]
 pub enum Read {
     // So many nodes stand at the front of the node space; the rest of it stays.
     Nodes(usize),
@@ -34,7 +36,7 @@ pub enum Read {
 }
 
 // What printing answers.
-#[derive(Drop)]
+#[derive(Clone, Copy)]
 pub enum Printed {
     // So many bytes stand at the front of the text space; the rest of it stays.
     Bytes(usize),

@@ -32,6 +32,7 @@ pub(crate) fn node_at(nodes: &[u16], i: usize) -> Node
 }
 
 // How many operands a kind has; 3 for a number that is no kind.
+#[tactic(auto, unfolding(crate::specs::InsidePrinting::sort_of))]
 pub(crate) fn operands(kind: u16) -> u8
     ensures { result ≡ takes (sort_of kind) }
 {
@@ -51,6 +52,7 @@ pub(crate) fn operands(kind: u16) -> u8
 }
 
 // How many bytes a kind's text has besides its operands'.
+#[tactic(auto, unfolding(crate::specs::InsidePrinting::sort_of))]
 fn signs_size(kind: u16) -> usize
     requires { Signed kind }
     ensures { result ≡ signs (sort_of kind) }

@@ -11,8 +11,9 @@ fn put(sign: &[u8], text: &mut [u8], place: usize) -> usize
     requires { place + length sign.now ≤ length text.old }
     ensures { Put text.old text.new place result sign.now }
 {
-    let size = bytes::copy(sign, &mut text[place..]);
-    place + size
+    let end = place + sign.len();
+    text[place..end].copy_from_slice(sign);
+    end
 }
 
 fn put_digit(digit: u16, text: &mut [u8], place: usize) -> usize
@@ -35,6 +36,7 @@ fn put_decimal(number: u16, text: &mut [u8], place: usize) -> usize
 }
 
 // What stands in front of the first operand.
+#[tactic(auto, unfolding(crate::specs::InsidePrinting::sort_of))]
 fn put_opening(kind: u16, text: &mut [u8], place: usize) -> usize
     requires { OpeningFits kind text.old place }
     ensures { Put text.old text.new place result (front (sort_of kind)) }
@@ -54,6 +56,7 @@ fn put_opening(kind: u16, text: &mut [u8], place: usize) -> usize
 }
 
 // What stands between the two operands.
+#[tactic(auto, unfolding(crate::specs::InsidePrinting::sort_of))]
 fn put_middle(kind: u16, text: &mut [u8], place: usize) -> usize
     requires { MiddleFits kind text.old place }
     ensures { Put text.old text.new place result (inner (sort_of kind)) }
@@ -67,6 +70,7 @@ fn put_middle(kind: u16, text: &mut [u8], place: usize) -> usize
 }
 
 // A node without operands.
+#[tactic(auto, unfolding(crate::specs::InsidePrinting::sort_of))]
 fn write_leaf(node: Node, text: &mut [u8], place: usize) -> usize
     requires { LeafFits node text.old place }
     ensures { Put text.old text.new place result (leaf_text (sort_of node.kind) node.left) }

@@ -1,11 +1,9 @@
--- The front that a call is lent, a word as a line, that a path is told only where one is to be listed, and that `write_line` permits one answer.
-use Prim.Native.Nat.{ℕ, zero, suc, ◌≤◌, ◌<◌}
-use mathlib.Core.Path.{◌≡◌, refl, ap, ap₂, sym, ◌∙◌, subst₂}
+-- The front that a call is lent, that a path is told only where one is to be listed, and that `write_line` permits one answer.
+use Prim.Native.Nat.{ℕ, zero, suc, ◌<◌, ◌≤◌}
+use mathlib.Core.Path.{◌≡◌, ap, ap₂, sym, ◌∙◌, subst₂, refl}
 use mathlib.Core.List.{List, ◌++◌}
 use native.Mathlib.Omega.{arith}
-use lib.ListN.{length, take, drop, drop_of_length-le}
-use lib.Seq.{take_all, take-length, drop-length}
-use borrow.Author.Tests.{le-leb}
+use lib.ListN.{take, drop, length, drop_of_length-le}
 use Rattle.paths.specs.declared.FirstAnswer.{FirstAnswer}
 use Rattle.paths.specs.declared.FirstAnswer.TheVariants as first
 use Rattle.paths.specs.declared.NextAnswer.{NextAnswer}
@@ -13,9 +11,7 @@ use Rattle.paths.specs.declared.NextAnswer.TheVariants as next
 use Rattle.paths.specs.Questions.{Question}
 use Rattle.paths.proofs.OneAnswer.{first_one, next_one}
 use Rattle.answer.specs.Answers.{Due, LineWritten}
-use Rattle.answer.specs.Answers.Due.{line}
 use Rattle.answer.specs.declared.Written.{Written}
-use Rattle.answer.specs.declared.Written.TheVariants.{Bytes}
 use Rattle.answer.proofs.Promises.{written_one}
 use Rattle.listing.specs.declared.Call.{Call}
 use Rattle.listing.specs.declared.Call.TheVariants as call
@@ -23,7 +19,11 @@ use Rattle.listing.specs.declared.Told.{Told}
 use Rattle.listing.specs.declared.Told.TheVariants as told
 use Rattle.listing.specs.declared.Listed.{Listed}
 use Rattle.listing.specs.Inside.{Front}
-use Rattle.listing.specs.Answers.{path_told, first_told, next_told, told_due, Called, Calls, LineListed}
+use Rattle.listing.specs.Answers.{first_told, next_told, told_due, Called, Calls, LineListed, path_told}
+use lib.Seq.{take_all, take-length, drop-length}
+use borrow.Author.Tests.{le-leb}
+use Rattle.answer.specs.Answers.Due.{line}
+use Rattle.answer.specs.declared.Written.TheVariants.{Bytes}
 
 pub front_all : (n : ℕ) (space : List ℕ) → length space ≤ n → Front n space (length space)
 front_all n space h = record {
@@ -55,7 +55,7 @@ word_written {word} {before} h e copied = record {
   buffer = copied ∙ simp (le-leb _ _ h, take-length word);
 }
 
--- and only there
+-- a path is told only where one is to be listed
 first_more : (n : ℕ) (x : FirstAnswer) → first_told 0 x ≡ told.Path n → ⊥
 first_more n (first.Path m) e = let z : ◌≡◌ {A = ℕ} 0 1 = cc in omega arith
 first_more n first.None e = let z : ◌≡◌ {A = ℕ} 0 1 = cc in omega arith

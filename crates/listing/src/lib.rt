@@ -4,6 +4,8 @@
 //   lines   the line of what they tell
 //
 // specs/Answers says what `write_line` promises.
+#![tactic(auto)]
+
 use answer::Written;
 
 mod calls;
@@ -17,14 +19,14 @@ use lines::write_told;
 
 // The call that is made for a line: First from a start, lent so many entries of the path space, or Next, lent a path of so many.
 // They are the first of the space; where it has fewer, all of it is lent.
-#[derive(Drop)]
+#[derive(Clone, Copy)]
 pub enum Call {
     First { start: usize, room: usize },
     Next(usize),
 }
 
 // What a line tells. Only behind a path does the listing go on, with Next.
-#[derive(Drop)]
+#[derive(Clone, Copy)]
 pub enum Told {
     // A path of so many entries stands at the front of the path space.
     Path(usize),
@@ -39,7 +41,7 @@ pub enum Told {
 }
 
 // What is told, and what writing its line answered.
-#[derive(Drop)]
+#[derive(Clone, Copy)]
 pub struct Listed {
     pub told: Told,
     pub line: Written,

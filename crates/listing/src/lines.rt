@@ -11,10 +11,12 @@ use answer::Written;
 fn write_word(word: &[u8], buffer: &mut [u8]) -> Written
     ensures { LineWritten (line word.now) buffer.old buffer.new result }
 {
-    if buffer.len() < word.len() {
+    let n = word.len();
+    if buffer.len() < n {
         return Written::NoRoom;
     }
-    Written::Bytes(bytes::copy(word, buffer))
+    buffer[..n].copy_from_slice(word);
+    Written::Bytes(n)
 }
 
 // The path stands at the front of the path space.

@@ -4,6 +4,8 @@
 //   marks      the states where A(left U right) is false, and the way on from each
 //   drawing    the walk along these ways, for tables that are not refused
 //   checking   whether a list and its ending are a picture
+#![tactic(auto)]
+
 ghost use Rattle.pictures.specs.Pictures.{asked};
 ghost use Rattle.pictures.specs.Answers.{PicturePromise, CheckPromise};
 
@@ -15,14 +17,14 @@ mod drawing;
 mod marks;
 
 // How a picture ends: the left part is false at its last state, or that state has a transition to this place of the list.
-#[derive(Drop)]
+#[derive(Clone, Copy)]
 pub enum Ending {
     Falls,
     Back(usize),
 }
 
 // How many entries the picture has and how it ends, that the verdict is not false, or the number of a refusal.
-#[derive(Drop)]
+#[derive(Clone, Copy)]
 pub enum PictureAnswer {
     Picture(usize, Ending),
     None,

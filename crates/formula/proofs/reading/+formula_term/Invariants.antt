@@ -1,0 +1,10 @@
+-- The cycle of the two readers: each call is on less text, and a term is measured below the formula that it is all of.
+use Prim.Native.Nat.{◌+◌, ◌-◌, ◌*◌}
+use lib.ListN.{length}
+use Rattle.formula.proofs.reading.+formula_term.Given as goal
+
+abbrev pub decreases-formula : goal.decreases-formula
+decreases-formula l = 2 * (length l.text.now - l.place) + 1
+
+abbrev pub decreases-term : goal.decreases-term
+decreases-term l = 2 * (length l.text.now - l.place)
