@@ -4,6 +4,8 @@
 //   lines     one line of the answer
 //
 // specs/Answers says what the calls promise, specs/Output what the whole answer is.
+#![tactic(auto)]
+
 use text::Read;
 use values::limits::{MOST_LABELS, MOST_NODE_NUMBERS, MOST_STATES, MOST_TRANSITION_NUMBERS};
 use values::verdict::Verdict;
@@ -18,7 +20,7 @@ use judging::{ask_fronts, judge_fronts, refused};
 use lines::{line_of, write_row_at};
 
 // What came of a text: 0 with the counts and the model's verdict, or the number of the refusal and zeros.
-#[derive(Drop)]
+#[derive(Clone, Copy)]
 pub struct Sheet {
     pub number: u8,
     pub states: usize,
@@ -27,7 +29,7 @@ pub struct Sheet {
 }
 
 // What writing a line of the answer says. Only `Bytes` changes the buffer.
-#[derive(Drop)]
+#[derive(Clone, Copy)]
 pub enum Line {
     // So many bytes stand at the front of the buffer; the rest of it stays.
     Bytes(usize),

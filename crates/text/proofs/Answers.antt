@@ -1,20 +1,15 @@
 -- An answer that is no line is handed on as it is, and after one that is a line the next reader goes on from its place.
 use Prim.Native.Nat.{ℕ}
 use mathlib.Core.Path.{◌≡◌, refl, ap, sym, ◌∙◌}
-use mathlib.Core.List.{List, [], ◌∷◌, map}
-use mathlib.Core.Logic.{⊎_elim}
+use mathlib.Core.List.{List, map}
 use native.Mathlib.Omega.{arith}
 use lib.ListN.{take, drop}
-use types.Run.{OneOf}
-use denote.Enum.Declared.{tag_of}
-use borrow.Author.Tests.{eqb-false}
 use Rattle.lists.specs.Entries.{at}
 use Rattle.lists.specs.Rows.{laid}
 use Rattle.model.specs.Model.{Model}
 use Rattle.text.specs.declared.cursor.Cursor.{Cursor}
 use Rattle.text.specs.declared.cursor.Line.{Line}
 use Rattle.text.specs.declared.cursor.Line.TheVariants.{Read, Ends, Refused}
-use Rattle.text.specs.contracts.cursor.Line.{the_type}
 use Rattle.form.specs.Readers.{Reading, Reader, on, place_of, symbols, count_line}
 use Rattle.form.specs.Readers.Reading.{found, ends, refused}
 use Rattle.text.specs.Answers.{settled}
@@ -26,10 +21,10 @@ use Rattle.form.proofs.Inverse.{count_inverse}
 
 -- the answer is no line
 abbrev pub Stops : Line → Type 0
-Stops l = OneOf (1 ∷ 2 ∷ []) (tag_of the_type l)
+Stops l = (x y : ℕ) (c : Cursor) → l ≡ Read x y c → ⊥
 
 no_stop : (x y : ℕ) (c : Cursor) → Stops (Read x y c) → ⊥
-no_stop x y c t = ⊎_elim (eqb-false 0 1 refl) (eqb-false 0 2 refl) t
+no_stop x y c t = t x y c refl
 
 pub stopped : {A B : Type 0} (f : ℕ → ℕ → A) (g : ℕ → ℕ → B) (k : A → Reader B) (text : List ℕ) (l : Line) (o : Reading A)
     → told f text l ≡ o → Stops l → told g text l ≡ on o k

@@ -8,7 +8,7 @@ use native.Mathlib.Nat.{mul-le-mul, mul-le-mul_left, mul_comm}
 use lib.ListN.{length, take, replicate, length-replicate}
 use lib.Seq.{length-take-le}
 use lib.Dec.{ltb}
-use borrow.Author.Tests.{lt-ltb, le-ltb, ltb-false, eqb-false}
+use borrow.Author.Tests.{lt-ltb, le-ltb, ltb-false}
 use Rattle.lists.specs.Rows.{fill, laid}
 use Rattle.lists.proofs.Tests.{or_neither}
 use Rattle.values.specs.Limits.{most_states, most_labels, most_transition_numbers, most_node_numbers, most_text}
@@ -23,9 +23,6 @@ use Rattle.text.specs.Answers.Outcome.{model, refusal}
 use Rattle.text.specs.Inside.{labelled_in, lists_in, outcome_in}
 use Rattle.text.specs.declared.Read.{Read}
 use Rattle.text.specs.declared.Read.TheVariants as read
-use Rattle.text.specs.contracts.Read.{the_type}
-use types.Run.{OneOf}
-use denote.Enum.Declared.{tag_of}
 use Rattle.form.proofs.Printed.{model_back}
 use Rattle.lists.proofs.Laid.{laid_front}
 
@@ -94,9 +91,9 @@ pub promise_refused : (text : List ℕ) (before : Tables) (n : ℕ) → outcome 
 promise_refused text before n e = record { number = sym (ap number_due e); counts = sym (ap counts_due e); lent = sym (ap (λ (o : Outcome). tables_due o before) e) }
 
 -- an answer of the whole text that is a refusal is handed on as it is
-pub promise_stopped : (text : List ℕ) (before : Tables) (l i t n : List ℕ) (r : Read) → outcome before text ≡ outcome_in l i t n r → OneOf (1 ∷ []) (tag_of the_type r)
+pub promise_stopped : (text : List ℕ) (before : Tables) (l i t n : List ℕ) (r : Read) → outcome before text ≡ outcome_in l i t n r → ((s a e f : ℕ) → r ≡ read.Model s a e f → ⊥)
     → ModelRead text before before r
-promise_stopped text before l i t n (read.Model s a e f) q k = absurd (eqb-false 0 1 refl k)
+promise_stopped text before l i t n (read.Model s a e f) q k = absurd (k s a e f refl)
 promise_stopped text before l i t n (read.Refused m) q k = promise_refused text before m q
 
 pub promise_model : (text : List ℕ) (before : Tables) (L I T N l i t n : List ℕ) (s a e f : ℕ) → outcome before text ≡ model (lists_in (labelled_in l i s a) t n e f)

@@ -4,13 +4,13 @@ ghost use Rattle.values.specs.Signs.{digits};
 ghost use Rattle.form.specs.Readers.{exactly, number, place_of, may_grow, symbols, numbers};
 ghost use Rattle.text.specs.Inside.{told, nothing, first, bare};
 
-#[derive(Drop)]
+#[derive(Clone, Copy)]
 pub struct Cursor {
     pub at: usize,
 }
 
 // What reading a line, or a part of one, finds.
-#[derive(Drop)]
+#[derive(Clone, Copy)]
 pub enum Line {
     // Its numbers, 0 where it carries fewer than two, and the place after it.
     Read(u16, u16, Cursor),

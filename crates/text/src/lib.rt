@@ -6,6 +6,8 @@
 //   tables   the lent tables: whether they are long enough, and their fronts filled
 //
 // Crate form says what the form is and how a model is printed, specs/Answers what `read_model` promises.
+#![tactic(auto)]
+
 use values::limits::{
     MOST_LABELS, MOST_NODE_NUMBERS, MOST_STATES, MOST_TEXT, MOST_TRANSITION_NUMBERS,
 };
@@ -21,7 +23,7 @@ use sections::read_tables;
 use tables::{copy_bytes, copy_numbers, too_short};
 
 // What reading answers.
-#[derive(Drop)]
+#[derive(Clone, Copy)]
 pub enum Read {
     // The counts of what was read.
     Model {
