@@ -1,26 +1,25 @@
 -- Labels made from measurements: what the labels say of every possible value, the delay, and lines from their bytes.
 use mathlib.Core.Path.{◌≡◌, refl, sym, ap, ◌∙◌}
-use Prim.Native.Nat.{ℕ, zero, suc, ◌≤◌, ◌<◌}
-use mathlib.Core.Bool.{Bool, true, false, cond, true≢false}
+use Prim.Native.Nat.{ℕ, zero, suc, ◌≤◌}
+use mathlib.Core.Bool.{Bool, true, false, cond}
 use native.Mathlib.Omega.{arith}
-use lib.IntN.{ℤ, pos, negsuc}
+use lib.IntN.{pos, negsuc}
 use lib.Signed.{le_z}
-use lib.Ieee.{Float, nan, inf, fin, le}
+use lib.Ieee.{le}
 use Rattle.values.specs.Answers.{verdict}
 use Rattle.values.specs.declared.verdict.Verdict.{Verdict}
-use Rattle.readings.specs.declared.Labelled.{Labelled}
-use Rattle.readings.specs.declared.Labelled.TheVariants.{Is, Refused}
+use Rattle.readings.specs.declared.Labelled.TheVariants.{Refused}
 use Rattle.readings.specs.declared.voltages.Reading.{Reading}
 use Rattle.readings.specs.declared.voltages.Gate.{Gate}
-use Rattle.readings.specs.Gates.{Limits, sound, inside, measured}
-use Rattle.readings.specs.Delays.{Delay, turn, mod_turn}
+use Rattle.readings.specs.Gates.{sound, measured}
+use Rattle.readings.specs.Delays.{mod_turn}
 use Rattle.readings.specs.Answers.{voltage_limits, delay_limits, labelled, voltage_label, delay_label}
 use Rattle.readings.proofs.FloatOrder.{above_nan, not_itself}
 use Rattle.readings.proofs.Orders.{voltages_ordered, whole_itself}
 use Rattle.readings.proofs.Gates.{crossed, single, measured_small}
 use Rattle.readings.proofs.Meaning.{true_all, false_none, all_true, none_false, single_known, narrower_true, narrower_false}
 use Rattle.readings.proofs.Turns.{turn_more, delay_there_lem, delay_one}
-use Rattle.promises.specs.Labels.{label_of, TrueIsInside, FalseIsOutside, LabelGiven, SoundIsLabelled, BrokenIsUnknown, GateRefused, NanAlone, NarrowerKeeps, EqualEndsKnown, DelayKnown, DelayThere, OneDelay, TurnsCount, WorkedDelays}
+use Rattle.promises.specs.Labels.{label_of, TrueIsInside, FalseIsOutside, SoundIsLabelled, BrokenIsUnknown, GateRefused, NanAlone, NarrowerKeeps, EqualEndsKnown, DelayKnown, DelayThere, OneDelay, TurnsCount, WorkedDelays}
 
 -- a label is its number
 one_label : (m n : ℕ) → label_of m ≡ label_of n → m ≡ n

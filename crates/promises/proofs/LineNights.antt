@@ -1,6 +1,6 @@
 -- Lines of the label desk from their bytes, computed: what each says, a double's rounding included, and its answer.
-use mathlib.Core.Path.{◌≡◌, refl, sym, ap, ◌∙◌}
-use lib.IntN.{ℤ, pos, negsuc}
+use mathlib.Core.Path.{refl, ap, ◌∙◌}
+use lib.IntN.{ℤ, negsuc}
 use lib.Signed.{le_z}
 use lib.Ieee.{le, round}
 use Rattle.numerals.specs.Texts.{has, before, behind, begins_with, same}

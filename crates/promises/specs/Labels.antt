@@ -1,5 +1,5 @@
 -- Labels made from measurements, request 3. The statements speak of what `label`, `label_delay`, `delay` and `label_line` promise.
-use Rattle.std.specs.Prelude.{◌≡◌, ℕ, ◌≤◌, ◌<◌, List, [], ◌∷◌, Bool, true, false, cond, ℤ, pos, negsuc, ◌+ℤ◌, Float}
+use Rattle.std.specs.Prelude.{◌≡◌, ℕ, ◌≤◌, ◌<◌, List, [], ◌∷◌, true, false, cond, ℤ, pos, negsuc, ◌+ℤ◌, Float}
 use Rattle.std.specs.Int.Signed.{le_z}
 use Rattle.std.specs.Float.{nan}
 use Rattle.std.specs.Float.Ieee.{le}
@@ -10,7 +10,7 @@ use Rattle.readings.specs.declared.Labelled.TheVariants.{Is, Refused}
 use Rattle.readings.specs.declared.voltages.Reading.{Reading}
 use Rattle.readings.specs.declared.voltages.Gate.{Gate}
 use Rattle.readings.specs.declared.delays.DelayGate.{DelayGate}
-use Rattle.readings.specs.Gates.{Limits, sound, inside}
+use Rattle.readings.specs.Gates.{sound, inside}
 use Rattle.readings.specs.Delays.{Delay, turn, mod_turn}
 use Rattle.readings.specs.Answers.{voltage_limits, delay_limits, voltage_label, delay_label}
 use Rattle.labelling.specs.Answers.{LineLabelled}
