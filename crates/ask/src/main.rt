@@ -2,36 +2,50 @@
 // the rows of the formula's parts too.
 //
 //   telling   line after line, written out
+#![tactic(auto)]
+
 mod telling;
 
-use libc::{STDIN_FILENO, STDOUT_FILENO};
+use std::env::{Env, FillError};
+use std::io;
 use values::limits::{MOST_FORMULA, MOST_TEXT, MOST_VERDICTS};
+
+// One word more than is ever asked with, the program's name among them.
+const MOST_WORDS: usize = 4;
+
+// How many words the program was called with, its name among them; from the most on they aren't counted.
+fn word_count(rt: &impl Env) -> usize {
+    for i in 0..MOST_WORDS {
+        // No space is lent: what is given is too long for it, or empty.
+        if let Err(FillError::NotPresent) = rt.arg(i, &mut []) {
+            return i;
+        }
+    }
+    MOST_WORDS
+}
 
 // One byte more than a text or a formula may have: a longer one is seen to be too long. A word that isn't whole even so comes out empty,
 // and that is no formula either.
-fn answer(parts: bool) {
+fn answer(rt: &(impl Env + Input + Print), parts: bool) -> io::Result<()> {
     let mut formula = [0u8; MOST_FORMULA + 1];
-    let length = os::arg(1, &mut formula);
+    let length = rt.arg(1, &mut formula).unwrap_or(0);
     let mut text = [0u8; MOST_TEXT + 1];
-    let got = io::read_full(STDIN_FILENO, &mut text);
+    let n = input::fill(&mut rt.reader(), &mut text)?;
     let mut verdicts = [0u8; MOST_VERDICTS];
-    let sheet = sheet::judge_formula(&text[..got], &formula[..length], &mut verdicts);
-    telling::number(sheet, &verdicts);
+    let sheet = sheet::judge_formula(&text[..n], &formula[..length], &mut verdicts);
+    telling::number(rt, sheet, &verdicts)?;
     if parts {
-        telling::parts(sheet, &verdicts, &formula[..length]);
+        telling::parts(rt, sheet, &verdicts, &formula[..length])?;
     }
-    telling::whole(sheet, &verdicts);
+    telling::whole(rt, sheet, &verdicts)
 }
 
-fn main() {
-    match os::arg_count() {
-        2 => answer(false),
-        3 => answer(true),
-        _ => {
-            io::write_all(
-                STDOUT_FILENO,
-                b"no question: give a formula, and a second word if its parts are wanted too\n",
-            );
-        }
+fn main(rt: HostRuntime) -> io::Result<()> {
+    match word_count(&rt) {
+        2 => answer(&rt, false),
+        3 => answer(&rt, true),
+        _ => rt.write_all(
+            b"no question: give a formula, and a second word if its parts are wanted too\n",
+        ),
     }
 }

@@ -1,72 +1,78 @@
 // The lines of the answer, written out: its number, a line a part, the last row and the model's verdict.
 use answer::MOST_LINE;
 use formula::{Printed, Read};
-use libc::STDOUT_FILENO;
 use sheet::{Line, Sheet};
+use std::io;
 use values::limits::{MOST_FORMULA, MOST_NODE_NUMBERS, MOST_NODES};
 
 // Line k of the whole answer.
-fn line(sheet: Sheet, verdicts: &[u8], k: usize) {
+fn line(rt: &impl Print, sheet: Sheet, verdicts: &[u8], k: usize) -> io::Result<()> {
     let mut buffer = [0u8; MOST_LINE];
     let Line::Bytes(n) = sheet::write_line(sheet, verdicts, k, &mut buffer) else {
-        return;
+        return Ok(());
     };
-    io::write_all(STDOUT_FILENO, &buffer[..n]);
+    rt.write_all(&buffer[..n])
 }
 
 // The text of a part, in a space that is lent for it.
-fn part(nodes: &[u16], k: usize, text: &mut [u8]) {
+fn part(rt: &impl Print, nodes: &[u16], k: usize, text: &mut [u8]) -> io::Result<()> {
     let Printed::Bytes(n) = formula::print_part(nodes, k, text) else {
-        return;
+        return Ok(());
     };
     if text.len() < n {
-        return;
+        return Ok(());
     }
-    io::write_all(STDOUT_FILENO, b"part=");
-    io::write_all(STDOUT_FILENO, &text[..n]);
-    io::write_all(STDOUT_FILENO, b" ");
+    rt.write_all(b"part=")?;
+    rt.write_all(&text[..n])?;
+    rt.write_all(b" ")
 }
 
 // The parts that a list of nodes has, each with its row.
-fn parts_of(sheet: Sheet, verdicts: &[u8], nodes: &[u16]) {
+fn parts_of(rt: &impl Print, sheet: Sheet, verdicts: &[u8], nodes: &[u16]) -> io::Result<()> {
     let mut text = [0u8; MOST_FORMULA];
     let n = nodes.len() / 3;
     let mut k: usize = 0;
     while k < n {
-        part(nodes, k, &mut text);
-        line(sheet, verdicts, k + 1);
+        part(rt, nodes, k, &mut text)?;
+        line(rt, sheet, verdicts, k + 1)?;
         k += 1;
     }
+    Ok(())
 }
 
-pub(crate) fn number(sheet: Sheet, verdicts: &[u8]) {
-    line(sheet, verdicts, 0);
+pub(crate) fn number(rt: &impl Print, sheet: Sheet, verdicts: &[u8]) -> io::Result<()> {
+    line(rt, sheet, verdicts, 0)
 }
 
 // Every part of the formula that was judged, operands first.
-pub(crate) fn parts(sheet: Sheet, verdicts: &[u8], formula: &[u8]) {
+pub(crate) fn parts(
+    rt: &impl Print,
+    sheet: Sheet,
+    verdicts: &[u8],
+    formula: &[u8],
+) -> io::Result<()> {
     if sheet.number != 0 {
-        return;
+        return Ok(());
     }
     let mut nodes = [0u16; MOST_NODE_NUMBERS];
     let Read::Nodes(n) = formula::read_formula(formula, &mut nodes) else {
-        return;
+        return Ok(());
     };
     if MOST_NODES < n {
-        return;
+        return Ok(());
     }
     let end = 3 * n;
-    parts_of(sheet, verdicts, &nodes[..end]);
+    parts_of(rt, sheet, verdicts, &nodes[..end])
 }
 
 // The last row and the model's verdict.
-pub(crate) fn whole(sheet: Sheet, verdicts: &[u8]) {
+pub(crate) fn whole(rt: &impl Print, sheet: Sheet, verdicts: &[u8]) -> io::Result<()> {
     if sheet.number != 0 {
-        return;
+        return Ok(());
     }
     if MOST_NODES < sheet.nodes {
-        return;
+        return Ok(());
     }
-    line(sheet, verdicts, sheet.nodes);
-    line(sheet, verdicts, sheet.nodes + 1);
+    line(rt, sheet, verdicts, sheet.nodes)?;
+    line(rt, sheet, verdicts, sheet.nodes + 1)
 }

@@ -1,27 +1,30 @@
 // One model's text on standard input, its whole answer on standard output.
+#![tactic(auto)]
+
 use answer::MOST_LINE;
-use libc::{STDIN_FILENO, STDOUT_FILENO};
 use sheet::{Line, Sheet};
+use std::io;
 use values::limits::{MOST_NODES, MOST_TEXT, MOST_VERDICTS};
 
 // The lines of the answer, up to its end: the number, a row a node, the model's verdict.
-fn write_answer(sheet: Sheet, verdicts: &[u8]) {
+fn write_answer(rt: &impl Print, sheet: Sheet, verdicts: &[u8]) -> io::Result<()> {
     let mut buffer = [0u8; MOST_LINE];
     let mut k: usize = 0;
     while k < MOST_NODES + 2 {
         let Line::Bytes(n) = sheet::write_line(sheet, verdicts, k, &mut buffer) else {
-            return;
+            return Ok(());
         };
-        io::write_all(STDOUT_FILENO, &buffer[..n]);
+        rt.write_all(&buffer[..n])?;
         k += 1;
     }
+    Ok(())
 }
 
-fn main() {
+fn main(rt: HostRuntime) -> io::Result<()> {
     // One byte more than a text may have: a longer one is seen to be too long.
     let mut text = [0u8; MOST_TEXT + 1];
-    let got = io::read_full(STDIN_FILENO, &mut text);
+    let n = input::fill(&mut rt.reader(), &mut text)?;
     let mut verdicts = [0u8; MOST_VERDICTS];
-    let sheet = sheet::judge_text(&text[..got], &mut verdicts);
-    write_answer(sheet, &verdicts);
+    let sheet = sheet::judge_text(&text[..n], &mut verdicts);
+    write_answer(&rt, sheet, &verdicts)
 }

@@ -6,6 +6,7 @@ use crate::lines::{CHECK, CHECK_PICTURE, FIRST, LIST, NEXT, PATH_SPACE, PICTURE,
 use crate::spaces::PATTERN_NUMBER;
 use crate::{base, lines, picturing, spaces};
 use paths::{CheckAnswer, FirstAnswer, NextAnswer};
+use std::io;
 use values::limits::MOST_STATES;
 
 // What a call answered: a path of so many entries, a refusal's number, or else a word: none, end, yes, no.
@@ -49,30 +50,37 @@ fn of_check(answer: CheckAnswer) -> Answer {
 }
 
 // The answer, and whether the path space or the list stayed, or what is behind the path.
-fn tell(call: usize, name: &[u8], answer: Answer, path: &[u16], before: &[u16]) {
+fn tell(
+    rt: &impl Print,
+    call: usize,
+    name: &[u8],
+    answer: Answer,
+    path: &[u16],
+    before: &[u16],
+) -> io::Result<()> {
     let n = answer.entries;
     let same = spaces::numbers_kept(path, before, n);
     let words = b"none|end|yes|no|\n|";
-    lines::case(call, name);
+    lines::case(rt, call, name)?;
     if 0 < n {
-        lines::path(spaces::numbers(path, n));
-        lines::kept(REST, same);
-        return;
+        lines::path(rt, spaces::numbers(path, n))?;
+        return lines::kept(rt, REST, same);
     }
     if answer.number != 0 {
-        lines::answer(answer.number);
+        lines::answer(rt, answer.number)?;
     } else {
-        lines::say(words, answer.word);
+        lines::say(rt, words, answer.word)?;
     }
     match call {
-        FIRST => lines::kept(PATH_SPACE, same),
-        NEXT => lines::kept(LIST, same),
-        _ => lines::say(words, 4),
+        FIRST => lines::kept(rt, PATH_SPACE, same),
+        NEXT => lines::kept(rt, LIST, same),
+        _ => lines::say(rt, words, 4),
     }
 }
 
 // First, lent so many entries of a path space; the space afterwards.
 pub(crate) fn first(
+    rt: &impl Print,
     name: &[u8],
     states: usize,
     transitions: &[u16],
@@ -81,7 +89,7 @@ pub(crate) fn first(
     level: u8,
     start: usize,
     room: usize,
-) -> [u16; MOST_STATES] {
+) -> io::Result<[u16; MOST_STATES]> {
     let before = [PATTERN_NUMBER; MOST_STATES];
     let mut path = [PATTERN_NUMBER; MOST_STATES];
     let n = spaces::least(room, MOST_STATES);
@@ -94,8 +102,8 @@ pub(crate) fn first(
         start,
         &mut path[..n],
     );
-    tell(FIRST, name, of_first(found), &path, &before);
-    path
+    tell(rt, FIRST, name, of_first(found), &path, &before)?;
+    Ok(path)
 }
 
 // A path space with a list at its front.
@@ -114,6 +122,7 @@ fn space(list: &[u16]) -> [u16; MOST_STATES]
 
 // Next, lent a list at the front of a space.
 pub(crate) fn next(
+    rt: &impl Print,
     name: &[u8],
     states: usize,
     transitions: &[u16],
@@ -121,16 +130,17 @@ pub(crate) fn next(
     right: &[u8],
     level: u8,
     list: &[u16],
-) {
+) -> io::Result<()> {
     let before = space(list);
     let mut path = before;
     let n = spaces::least(list.len(), MOST_STATES);
     let found = paths::next(states, transitions, left, right, level, &mut path[..n]);
-    tell(NEXT, name, of_next(found, n), &path, &before);
+    tell(rt, NEXT, name, of_next(found, n), &path, &before)
 }
 
 // Check, asked of a list.
 pub(crate) fn check(
+    rt: &impl Print,
     name: &[u8],
     states: usize,
     transitions: &[u16],
@@ -138,13 +148,18 @@ pub(crate) fn check(
     right: &[u8],
     level: u8,
     list: &[u16],
-) {
+) -> io::Result<()> {
     let answer = paths::check(states, transitions, left, right, level, list);
-    tell(CHECK, name, of_check(answer), list, list);
+    tell(rt, CHECK, name, of_check(answer), list, list)
 }
 
 // The question that numbers hold, asked.
-pub(crate) fn numbered(call: usize, name: &[u8], numbers: &[u16]) {
+pub(crate) fn numbered(
+    rt: &impl Print,
+    call: usize,
+    name: &[u8],
+    numbers: &[u16],
+) -> io::Result<()> {
     let all_left = base::bytes(numbers, b'P');
     let all_right = base::bytes(numbers, b'Q');
     let left = spaces::bytes(&all_left, base::one(numbers, b'P'));
@@ -158,11 +173,22 @@ pub(crate) fn numbered(call: usize, name: &[u8], numbers: &[u16]) {
     let ending = base::one(numbers, b'D');
     match call {
         FIRST => {
-            first(name, states, transitions, left, right, level, start, room);
+            first(
+                rt,
+                name,
+                states,
+                transitions,
+                left,
+                right,
+                level,
+                start,
+                room,
+            )?;
+            Ok(())
         }
-        NEXT => next(name, states, transitions, left, right, level, list),
-        PICTURE => picturing::picture(name, states, transitions, left, right, start, room),
-        CHECK_PICTURE => picturing::check(name, states, transitions, left, right, list, ending),
-        _ => check(name, states, transitions, left, right, level, list),
+        NEXT => next(rt, name, states, transitions, left, right, level, list),
+        PICTURE => picturing::picture(rt, name, states, transitions, left, right, start, room),
+        CHECK_PICTURE => picturing::check(rt, name, states, transitions, left, right, list, ending),
+        _ => check(rt, name, states, transitions, left, right, level, list),
     }
 }

@@ -18,7 +18,7 @@ use values::limits::{
 pub(crate) const NUMBERS: usize = 27 * 32 + MOST_TRANSITION_NUMBERS + 2;
 
 // What a code has been read to: the row, the place to write to, the number so far.
-#[derive(Drop)]
+#[derive(Clone, Copy)]
 struct Cursor {
     row: u16,
     place: u16,

@@ -18,60 +18,61 @@ use crate::lines::{CHECK, CHECK_PICTURE, FIRST, JUDGE, NEXT, NIGHT, PICTURE};
 use crate::reading::{NODES, NONE};
 use crate::table::part;
 use crate::{asking, base, formulas, judging, labels, largest, lines, reading};
+use std::io;
 use values::limits::{MOST_ATOMS, MOST_TEXT};
 
 // A case that is a text, judged with so much room.
-fn text(letter: u8, name: &[u8], text: &[u8], room: usize) {
+fn text(rt: &impl Print, letter: u8, name: &[u8], text: &[u8], room: usize) -> io::Result<()> {
     match letter {
-        b't' => reading::asked(name, text, room),
-        b'g' | b'h' | b'i' => formulas::judged(letter, name, text, room),
-        b'u' => reading::padded(name, text, MOST_TEXT, NONE),
-        b'v' => reading::padded(name, text, MOST_TEXT + 1, NONE),
-        b'w' => reading::padded(name, text, MOST_TEXT + 1, NODES),
-        _ => reading::read(name, text, (letter % 16) as usize),
+        b't' => reading::asked(rt, name, text, room),
+        b'g' | b'h' | b'i' => formulas::judged(rt, letter, name, text, room),
+        b'u' => reading::padded(rt, name, text, MOST_TEXT, NONE),
+        b'v' => reading::padded(rt, name, text, MOST_TEXT + 1, NONE),
+        b'w' => reading::padded(rt, name, text, MOST_TEXT + 1, NODES),
+        _ => reading::read(rt, name, text, (letter % 16) as usize),
     }
 }
 
 // A case that is a model, a path question or a list of nodes.
-fn tables(letter: u8, name: &[u8], numbers: &[u16]) {
+fn tables(rt: &impl Print, letter: u8, name: &[u8], numbers: &[u16]) -> io::Result<()> {
     match letter {
-        b'n' => judging::numbered(NIGHT, name, numbers),
-        b'j' => judging::numbered(JUDGE, name, numbers),
-        b'F' => asking::numbered(FIRST, name, numbers),
-        b'N' => asking::numbered(NEXT, name, numbers),
-        b'C' => asking::numbered(CHECK, name, numbers),
-        b'W' => asking::numbered(PICTURE, name, numbers),
-        b'X' => asking::numbered(CHECK_PICTURE, name, numbers),
+        b'n' => judging::numbered(rt, NIGHT, name, numbers),
+        b'j' => judging::numbered(rt, JUDGE, name, numbers),
+        b'F' => asking::numbered(rt, FIRST, name, numbers),
+        b'N' => asking::numbered(rt, NEXT, name, numbers),
+        b'C' => asking::numbered(rt, CHECK, name, numbers),
+        b'W' => asking::numbered(rt, PICTURE, name, numbers),
+        b'X' => asking::numbered(rt, CHECK_PICTURE, name, numbers),
         b'Y' => {
-            asking::numbered(PICTURE, name, numbers);
-            asking::numbered(CHECK_PICTURE, name, numbers);
+            asking::numbered(rt, PICTURE, name, numbers)?;
+            asking::numbered(rt, CHECK_PICTURE, name, numbers)
         }
-        b'P' | b'S' | b'K' | b'U' => formulas::numbered(letter, name, numbers),
+        b'P' | b'S' | b'K' | b'U' => formulas::numbered(rt, letter, name, numbers),
         _ => {
-            asking::numbered(FIRST, name, numbers);
-            asking::numbered(NEXT, name, numbers);
-            asking::numbered(CHECK, name, numbers);
+            asking::numbered(rt, FIRST, name, numbers)?;
+            asking::numbered(rt, NEXT, name, numbers)?;
+            asking::numbered(rt, CHECK, name, numbers)
         }
     }
 }
 
-fn asked(letter: u8, name: &[u8], model: &[u8], code: &[u8]) {
+fn asked(rt: &impl Print, letter: u8, name: &[u8], model: &[u8], code: &[u8]) -> io::Result<()> {
     match letter {
-        b'l' => largest::largest(NIGHT, name),
-        b'L' => largest::largest(JUDGE, name),
-        b'o' => largest::most_atoms(name, MOST_ATOMS - 1),
-        b'O' => largest::most_atoms(name, 0),
-        b'k' => lines::limits(),
-        b'q' => labels::asked(name, code),
-        b'p' => largest::longest(name),
-        b'a'..=b'f' | b'r' | b's' | b'x' | b'y' => formulas::asked(letter, name, code),
+        b'l' => largest::largest(rt, NIGHT, name),
+        b'L' => largest::largest(rt, JUDGE, name),
+        b'o' => largest::most_atoms(rt, name, MOST_ATOMS - 1),
+        b'O' => largest::most_atoms(rt, name, 0),
+        b'k' => lines::limits(rt),
+        b'q' => labels::asked(rt, name, code),
+        b'p' => largest::longest(rt, name),
+        b'a'..=b'f' | b'r' | b's' | b'x' | b'y' => formulas::asked(rt, letter, name, code),
         b'n' | b'j' | b'F' | b'N' | b'C' | b'*' | b'P' | b'S' | b'K' | b'U' | b'W'..=b'Y' => {
             let numbers = base::changed(model, code);
-            tables(letter, name, &numbers);
+            tables(rt, letter, name, &numbers)
         }
         _ => {
             let numbers = base::changed(model, b"");
-            text(letter, name, code, base::one(&numbers, b'V'));
+            text(rt, letter, name, code, base::one(&numbers, b'V'))
         }
     }
 }
@@ -89,24 +90,26 @@ fn letter_of(part: &[u8]) -> u8 {
 const MOST_PARTS: usize = 3000;
 
 // Every case of a table.
-pub(crate) fn run(table: &[u8]) {
+pub(crate) fn run(rt: &impl Print, table: &[u8]) -> io::Result<()> {
     let mut model = MOST_PARTS;
     let mut k: usize = 0;
     while k < MOST_PARTS {
         let letter = letter_of(part(table, k));
         if letter == b'\n' {
-            return;
+            return Ok(());
         }
         if letter == b'm' {
             model = k + 2;
         } else {
             asked(
+                rt,
                 letter,
                 part(table, k + 1),
                 part(table, model),
                 part(table, k + 2),
-            );
+            )?;
         }
         k += 3;
     }
+    Ok(())
 }

@@ -1,6 +1,7 @@
 // As many states, atoms, transitions and nodes as there may be.
 use crate::lines::JUDGE;
 use crate::{asking, judging, spaces};
+use std::io;
 use values::limits::{
     MOST_ATOMS, MOST_NODE_NUMBERS, MOST_STATES, MOST_TRANSITION_NUMBERS, MOST_VERDICTS,
 };
@@ -107,7 +108,7 @@ fn fill_labels(labels: &mut [u8]) {
 }
 
 // As many states, transitions and nodes as there may be, all nodes but two untils.
-pub(crate) fn largest(call: usize, name: &[u8]) {
+pub(crate) fn largest(rt: &impl Print, call: usize, name: &[u8]) -> io::Result<()> {
     let mut transitions = [0u16; MOST_TRANSITION_NUMBERS];
     let mut labels = [0u8; 2 * MOST_STATES];
     let mut nodes = [0u16; MOST_NODE_NUMBERS];
@@ -116,6 +117,7 @@ pub(crate) fn largest(call: usize, name: &[u8]) {
     fill_labels(&mut labels);
     fill(&mut nodes, UNTILS);
     judging::asked(
+        rt,
         call,
         name,
         MOST_STATES,
@@ -125,36 +127,43 @@ pub(crate) fn largest(call: usize, name: &[u8]) {
         &transitions,
         &nodes,
         MOST_VERDICTS,
-    );
+    )
 }
 
 // The three path calls in turn.
-fn in_turn(name: &[u8], transitions: &[u16], left: &[u8], right: &[u8]) {
+fn in_turn(
+    rt: &impl Print,
+    name: &[u8],
+    transitions: &[u16],
+    left: &[u8],
+    right: &[u8],
+) -> io::Result<()> {
     let states = MOST_STATES;
-    let path = asking::first(name, states, transitions, left, right, 2, 0, states);
+    let path = asking::first(rt, name, states, transitions, left, right, 2, 0, states)?;
     let list = spaces::numbers(&path, (MOST_STATES - 1) / 3 + 1);
-    asking::next(name, states, transitions, left, right, 2, list);
-    asking::check(name, states, transitions, left, right, 2, list);
+    asking::next(rt, name, states, transitions, left, right, 2, list)?;
+    asking::check(rt, name, states, transitions, left, right, 2, list)
 }
 
 // The same states and transitions asked for paths: from state 0 three states on at each step, and no other way.
-pub(crate) fn longest(name: &[u8]) {
+pub(crate) fn longest(rt: &impl Print, name: &[u8]) -> io::Result<()> {
     let mut transitions = [0u16; MOST_TRANSITION_NUMBERS];
     let left = [2u8; MOST_STATES];
     let mut right = [0u8; MOST_STATES];
     fill(&mut transitions, TRANSITIONS);
     right[MOST_STATES - 1] = 2;
-    in_turn(name, &transitions, &left, &right);
+    in_turn(rt, name, &transitions, &left, &right)
 }
 
 // One state with as many atoms as there may be, the last of them unknown: so is the conjunction of all. The last atom's node names this one.
-pub(crate) fn most_atoms(name: &[u8], last: usize) {
+pub(crate) fn most_atoms(rt: &impl Print, name: &[u8], last: usize) -> io::Result<()> {
     let mut labels = [2u8; MOST_ATOMS];
     let mut nodes = [0u16; 6 * MOST_ATOMS];
     labels[MOST_ATOMS - 1] = 1;
     fill(&mut nodes, CONJUNCTS);
     nodes[3 * MOST_ATOMS - 2] = (last % 65536) as u16;
     judging::asked(
+        rt,
         JUDGE,
         name,
         1,
@@ -164,5 +173,5 @@ pub(crate) fn most_atoms(name: &[u8], last: usize) {
         &[0, 0],
         &nodes,
         2 * MOST_ATOMS,
-    );
+    )
 }

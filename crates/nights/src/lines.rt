@@ -2,7 +2,7 @@
 use crate::spaces;
 use crate::table::part;
 use answer::{MOST_PATH_LINE, Written};
-use libc::STDOUT_FILENO;
+use std::io;
 
 // The calls; a night is told in short, and names none.
 pub(crate) const READ: usize = 0;
@@ -48,65 +48,66 @@ pub(crate) const NODE_SPACE: usize = 5;
 
 pub(crate) const TEXT_SPACE: usize = 6;
 
-pub(crate) fn write(text: &[u8]) {
-    io::write_all(STDOUT_FILENO, text);
+pub(crate) fn write(rt: &impl Print, text: &[u8]) -> io::Result<()> {
+    rt.write_all(text)
 }
 
 // Word k of a table.
-pub(crate) fn say(words: &[u8], k: usize) {
-    write(part(words, k));
+pub(crate) fn say(rt: &impl Print, words: &[u8], k: usize) -> io::Result<()> {
+    write(rt, part(words, k))
 }
 
 // Word k of a table, and a number.
-pub(crate) fn count(words: &[u8], k: usize, number: usize) {
-    say(words, k);
-    io::print_decimal(STDOUT_FILENO, number as u64);
+pub(crate) fn count(rt: &impl Print, words: &[u8], k: usize, number: usize) -> io::Result<()> {
+    say(rt, words, k)?;
+    print!(rt; "{number}")
 }
 
 // The limits in force, in the order of the rules' table.
-pub(crate) fn limits() {
+pub(crate) fn limits(rt: &impl Print) -> io::Result<()> {
     let most = values::limits::in_force();
     let words = b"limits: states=| atoms=| transitions=| nodes=| text=| formula=| kind=|\n|";
-    count(words, 0, most.states);
-    count(words, 1, most.atoms);
-    count(words, 2, most.transitions);
-    count(words, 3, most.nodes);
-    count(words, 4, most.text);
-    count(words, 5, most.formula);
-    count(words, 6, most.kind as usize);
-    say(words, 7);
+    count(rt, words, 0, most.states)?;
+    count(rt, words, 1, most.atoms)?;
+    count(rt, words, 2, most.transitions)?;
+    count(rt, words, 3, most.nodes)?;
+    count(rt, words, 4, most.text)?;
+    count(rt, words, 5, most.formula)?;
+    count(rt, words, 6, most.kind as usize)?;
+    say(rt, words, 7)
 }
 
 // Which call a line is of, and its case.
-pub(crate) fn case(call: usize, name: &[u8]) {
+pub(crate) fn case(rt: &impl Print, call: usize, name: &[u8]) -> io::Result<()> {
     let words = b"read, |text, |first, |next, |check, |judge, ||\
         read formula, |print formula, |print part, |judge formula, |label, |picture, |check picture, |: |";
-    say(words, call);
-    write(name);
-    say(words, 14);
+    say(rt, words, call)?;
+    write(rt, name)?;
+    say(rt, words, 14)
 }
 
-pub(crate) fn answer(number: u8) {
-    count(b"answer=|", 0, number as usize);
+pub(crate) fn answer(rt: &impl Print, number: u8) -> io::Result<()> {
+    count(rt, b"answer=|", 0, number as usize)
 }
 
 // The line of a path, without its line feed.
-pub(crate) fn path(path: &[u16]) {
+pub(crate) fn path(rt: &impl Print, path: &[u16]) -> io::Result<()> {
     let mut buffer = [0u8; MOST_PATH_LINE];
     match answer::write_path(path, &mut buffer) {
         Written::Bytes(n) => {
             if 0 < n {
-                write(spaces::bytes(&buffer, n - 1))
+                write(rt, spaces::bytes(&buffer, n - 1))?
             }
         }
         _ => {}
     }
+    Ok(())
 }
 
 // The end of a line: whether what is named stayed as it was.
-pub(crate) fn kept(what: usize, same: bool) {
+pub(crate) fn kept(rt: &impl Print, what: usize, same: bool) -> io::Result<()> {
     let words =
         b", rest|, verdict space|, tables|, path space|, list|, node space|, text space| kept\n| changed\n|";
-    say(words, what);
-    say(words, if same { 7 } else { 8 });
+    say(rt, words, what)?;
+    say(rt, words, if same { 7 } else { 8 })
 }

@@ -6,6 +6,8 @@
 //   layers     formulas as deep as there may be
 //   judging, asking, picturing, reading, formulas, labels   the calls asked and told
 //   table, lines, spaces   the parts of a table, the words of a line, what was lent compared
+#![tactic(auto)]
+
 mod asking;
 mod base;
 mod cases;
@@ -20,10 +22,14 @@ mod reading;
 mod spaces;
 mod table;
 
-use libc::STDIN_FILENO;
+use std::io;
 
-fn main() {
-    let mut buffer = io::large_buffer();
-    let n = io::read_full(STDIN_FILENO, &mut buffer);
-    cases::run(&buffer[..n]);
+// The most bytes of cases that are taken in.
+const MOST_CASES: usize = 65536;
+
+fn main(rt: HostRuntime) -> io::Result<()> {
+    let mut reader = rt.reader();
+    let mut cases = [0u8; MOST_CASES];
+    let n = input::fill(&mut reader, &mut cases)?;
+    cases::run(&rt, &cases[..n])
 }

@@ -4,6 +4,7 @@ ghost use Rattle.std.specs.Prelude.{◌<◌, ◌≤◌};
 use crate::lines::{READ, REST, TABLES, TEXT};
 use crate::spaces::{PATTERN, PATTERN_NUMBER};
 use crate::{judging, lines, spaces};
+use std::io;
 use text::Read;
 use values::limits::{
     MOST_LABELS, MOST_NODE_NUMBERS, MOST_STATES, MOST_TEXT, MOST_TRANSITION_NUMBERS, MOST_VERDICTS,
@@ -21,7 +22,7 @@ const TRANSITIONS: usize = 3;
 pub(crate) const NODES: usize = 4;
 
 // What reading answered: 0 and the counts, or the number of the refusal and zeros.
-#[derive(Drop)]
+#[derive(Clone, Copy)]
 struct Counts {
     number: u8,
     states: usize,
@@ -71,18 +72,17 @@ fn kept(filled: Counts, labels: &[u8], initial: &[u8], transitions: &[u16], node
 }
 
 // What reading answered, and whether the tables stayed, or what is behind their fronts.
-fn tell(counts: Counts, same: bool) {
+fn tell(rt: &impl Print, counts: Counts, same: bool) -> io::Result<()> {
     if counts.number != 0 {
-        lines::answer(counts.number);
-        lines::kept(TABLES, same);
-        return;
+        lines::answer(rt, counts.number)?;
+        return lines::kept(rt, TABLES, same);
     }
     let words = b"states=| atoms=| edges=| nodes=|";
-    lines::count(words, 0, counts.states);
-    lines::count(words, 1, counts.atoms);
-    lines::count(words, 2, counts.transitions);
-    lines::count(words, 3, counts.nodes);
-    lines::kept(REST, same);
+    lines::count(rt, words, 0, counts.states)?;
+    lines::count(rt, words, 1, counts.atoms)?;
+    lines::count(rt, words, 2, counts.transitions)?;
+    lines::count(rt, words, 3, counts.nodes)?;
+    lines::kept(rt, REST, same)
 }
 
 // How long a table is lent: one entry short where it is the one that is too short.
@@ -94,7 +94,7 @@ fn lent(most: usize, table: usize, short: usize) -> usize
 }
 
 // A text read, with one table too short or none.
-pub(crate) fn read(name: &[u8], text: &[u8], short: usize) {
+pub(crate) fn read(rt: &impl Print, name: &[u8], text: &[u8], short: usize) -> io::Result<()> {
     let mut labels = [PATTERN; MOST_LABELS];
     let mut initial = [PATTERN; MOST_STATES];
     let mut transitions = [PATTERN_NUMBER; MOST_TRANSITION_NUMBERS];
@@ -111,20 +111,21 @@ pub(crate) fn read(name: &[u8], text: &[u8], short: usize) {
         &mut nodes[..n],
     );
     let counts = counted(answer);
-    lines::case(READ, name);
+    lines::case(rt, READ, name)?;
     tell(
+        rt,
         counts,
         kept(counts, &labels, &initial, &transitions, &nodes),
-    );
+    )
 }
 
 // A text read, and judged with so much room.
-pub(crate) fn asked(name: &[u8], text: &[u8], room: usize) {
-    read(name, text, NONE);
+pub(crate) fn asked(rt: &impl Print, name: &[u8], text: &[u8], room: usize) -> io::Result<()> {
+    read(rt, name, text, NONE)?;
     let mut space = [PATTERN; MOST_VERDICTS];
     let lent = spaces::least(room, MOST_VERDICTS);
     let sheet = sheet::judge_text(text, &mut space[..lent]);
-    judging::told(TEXT, name, sheet, 0, &space);
+    judging::told(rt, TEXT, name, sheet, 0, &space)
 }
 
 // A text with line feeds behind it.
@@ -140,12 +141,19 @@ pub(crate) fn page(text: &[u8]) -> [u8; MOST_TEXT + 1] {
 }
 
 // So many bytes of a text with line feeds behind it, with one table too short or none.
-pub(crate) fn padded(name: &[u8], text: &[u8], size: usize, short: usize) {
+pub(crate) fn padded(
+    rt: &impl Print,
+    name: &[u8],
+    text: &[u8],
+    size: usize,
+    short: usize,
+) -> io::Result<()> {
     let page = page(text);
     let front = spaces::bytes(&page, size);
     if short == NONE {
-        asked(name, front, MOST_VERDICTS);
+        asked(rt, name, front, MOST_VERDICTS)?;
     } else {
-        read(name, front, short);
+        read(rt, name, front, short)?;
     }
+    Ok(())
 }

@@ -3,6 +3,7 @@ use crate::numbers::{ENTRIES, line_at, row_at};
 use crate::telling;
 use crate::telling::MOST_TOLD;
 use listing::Call;
+use std::io;
 
 // The most numbers that a frame's list of transitions or nodes has.
 pub(crate) const LIST_NUMBERS: usize = 2100;
@@ -28,6 +29,7 @@ pub(crate) fn count(number: u16) -> usize {
 
 // First and then Next until the end, or Next alone, or Check.
 fn ask(
+    rt: &impl Print,
     kind: u8,
     head: &[u16; 4],
     transitions: &[u16],
@@ -35,7 +37,7 @@ fn ask(
     right: &[u8],
     n: usize,
     list: &mut [u16],
-) {
+) -> io::Result<()> {
     let states = count(head[0]);
     let level = (head[1] % 256) as u8;
     let mut call = Call::Next(n);
@@ -47,14 +49,31 @@ fn ask(
         };
         lines = MOST_TOLD + 1;
     } else if kind != b'N' {
-        telling::checked(states, transitions, left, right, level, numbers(list, n));
-        return;
+        return telling::checked(
+            rt,
+            states,
+            transitions,
+            left,
+            right,
+            level,
+            numbers(list, n),
+        );
     }
-    telling::list(states, transitions, left, right, level, call, lines, list);
+    telling::list(
+        rt,
+        states,
+        transitions,
+        left,
+        right,
+        level,
+        call,
+        lines,
+        list,
+    )
 }
 
 // Lines: states, level, and for First start and room; transitions; left; right; and for Next and Check the list.
-pub(crate) fn question(body: &[u8], kind: u8) {
+pub(crate) fn question(rt: &impl Print, body: &[u8], kind: u8) -> io::Result<()> {
     let mut head = [0u16; 4];
     let mut transitions = [0u16; LIST_NUMBERS];
     let mut left = [0u8; ENTRIES];
@@ -66,6 +85,7 @@ pub(crate) fn question(body: &[u8], kind: u8) {
     let r = row_at(body, l.next, &mut right);
     let p = line_at(body, r.next, &mut list);
     ask(
+        rt,
         kind,
         &head,
         numbers(&transitions, t.count),
@@ -73,5 +93,5 @@ pub(crate) fn question(body: &[u8], kind: u8) {
         bytes(&right, r.count),
         p.count,
         &mut list,
-    );
+    )
 }

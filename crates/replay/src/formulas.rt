@@ -6,8 +6,8 @@ use crate::numbers::{ENTRIES, line_at, line_of, rest_of};
 use crate::{asking, telling};
 use answer::MOST_LINE;
 use formula::{Printed, Read};
-use libc::STDOUT_FILENO;
 use sheet::{Line, Sheet};
+use std::io;
 use values::limits::{MOST_NODES, MOST_VERDICTS};
 
 // The bytes of the text space that is lent.
@@ -21,21 +21,22 @@ pub(crate) fn least(room: usize, most: usize) -> usize
 }
 
 // So many nodes at the front of a space.
-fn nodes(n: usize, space: &[u16]) {
+fn nodes(rt: &impl Print, n: usize, space: &[u16]) -> io::Result<()> {
     if n <= MOST_NODES {
-        telling::nodes(asking::numbers(space, 3 * n));
+        telling::nodes(rt, asking::numbers(space, 3 * n))?;
     }
+    Ok(())
 }
 
 // A line with the room, and the formula's text behind it.
-pub(crate) fn read(body: &[u8]) {
+pub(crate) fn read(rt: &impl Print, body: &[u8]) -> io::Result<()> {
     let mut head = [0u16; 1];
     let mut space = [0u16; ENTRIES];
     let h = line_at(body, 2, &mut head);
     let room = least(count(head[0]), ENTRIES);
     match formula::read_formula(rest_of(body, h.next), &mut space[..room]) {
-        Read::Nodes(n) => nodes(n, &space),
-        Read::Refused(number) => telling::number(number),
+        Read::Nodes(n) => nodes(rt, n, &space),
+        Read::Refused(number) => telling::number(rt, number),
     }
 }
 
@@ -47,7 +48,7 @@ fn printed(kind: u8, nodes: &[u16], node: usize, text: &mut [u8]) -> Printed {
 }
 
 // Lines: the room, and for a part its node; the list of nodes.
-pub(crate) fn print(body: &[u8], kind: u8) {
+pub(crate) fn print(rt: &impl Print, body: &[u8], kind: u8) -> io::Result<()> {
     let mut head = [0u16; 2];
     let mut list = [0u16; LIST_NUMBERS];
     let mut text = [0u8; TEXT_SPACE];
@@ -57,30 +58,31 @@ pub(crate) fn print(body: &[u8], kind: u8) {
     let node = count(head[1]);
     let room = least(count(head[0]), TEXT_SPACE);
     let answer = printed(kind, nodes, node, &mut text[..room]);
-    telling::printed(answer, &text);
+    telling::printed(rt, answer, &text)
 }
 
 // Line k of the whole answer.
-fn line(sheet: Sheet, verdicts: &[u8], k: usize) {
+fn line(rt: &impl Print, sheet: Sheet, verdicts: &[u8], k: usize) -> io::Result<()> {
     let mut line = [0u8; MOST_LINE];
     let Line::Bytes(n) = sheet::write_line(sheet, verdicts, k, &mut line) else {
-        return;
+        return Ok(());
     };
-    io::write_all(STDOUT_FILENO, &line[..n]);
+    rt.write_all(&line[..n])
 }
 
 // The formula's line, and the model's text behind it: the number, the last row and the model's verdict.
-pub(crate) fn judge(body: &[u8]) {
+pub(crate) fn judge(rt: &impl Print, body: &[u8]) -> io::Result<()> {
     let formula = line_of(body, 2);
     let text = rest_of(body, formula.len() + 3);
     let mut verdicts = [0u8; MOST_VERDICTS];
     let sheet = sheet::judge_formula(text, formula, &mut verdicts);
-    telling::number(sheet.number);
+    telling::number(rt, sheet.number)?;
     if sheet.number != 0 {
-        return;
+        return Ok(());
     }
     if sheet.nodes <= MOST_NODES {
-        line(sheet, &verdicts, sheet.nodes);
-        line(sheet, &verdicts, sheet.nodes + 1);
+        line(rt, sheet, &verdicts, sheet.nodes)?;
+        line(rt, sheet, &verdicts, sheet.nodes + 1)?;
     }
+    Ok(())
 }

@@ -17,6 +17,8 @@
 //   X   a path question without a level, with a list and its ending: whether this is a picture
 //
 // Behind each answer stands a line with a dot.
+#![tactic(auto)]
+
 mod asking;
 mod formulas;
 mod measures;
@@ -25,69 +27,73 @@ mod reasons;
 mod telling;
 
 use answer::MOST_LINE;
-use libc::{STDIN_FILENO, STDOUT_FILENO};
 use sheet::{Line, Sheet};
+use std::io;
+use std::io::Read;
 use values::limits::{MOST_NODES, MOST_VERDICTS};
 
 // The whole answer, up to its end: the number, a row a node, the model's verdict.
-fn write_answer(sheet: Sheet, verdicts: &[u8]) {
+fn write_answer(rt: &impl Print, sheet: Sheet, verdicts: &[u8]) -> io::Result<()> {
     let mut line = [0u8; MOST_LINE];
     for k in 0..MOST_NODES + 2 {
         let Line::Bytes(n) = sheet::write_line(sheet, verdicts, k, &mut line) else {
-            return;
+            return Ok(());
         };
-        io::write_all(STDOUT_FILENO, &line[..n]);
+        rt.write_all(&line[..n])?;
     }
+    Ok(())
 }
 
-fn model(text: &[u8]) {
+fn model(rt: &impl Print, text: &[u8]) -> io::Result<()> {
     let mut verdicts = [0u8; MOST_VERDICTS];
     let sheet = sheet::judge_text(text, &mut verdicts);
-    write_answer(sheet, &verdicts);
+    write_answer(rt, sheet, &verdicts)
 }
 
-fn answer(body: &[u8]) {
+fn answer(rt: &impl Print, body: &[u8]) -> io::Result<()> {
     if body.len() < 2 {
-        return;
+        return Ok(());
     }
     let kind = body[0];
     match kind {
-        b'M' => model(&body[2..]),
-        b'R' => formulas::read(body),
-        b'P' | b'K' => formulas::print(body, kind),
-        b'Q' => formulas::judge(body),
-        b'V' => measures::voltage(body),
-        b'D' => measures::ticks(body),
-        b'L' => measures::lines(body),
-        b'W' | b'S' | b'X' => reasons::question(body, kind),
-        _ => asking::question(body, kind),
+        b'M' => model(rt, &body[2..])?,
+        b'R' => formulas::read(rt, body)?,
+        b'P' | b'K' => formulas::print(rt, body, kind)?,
+        b'Q' => formulas::judge(rt, body)?,
+        b'V' => measures::voltage(rt, body)?,
+        b'D' => measures::ticks(rt, body)?,
+        b'L' => measures::lines(rt, body)?,
+        b'W' | b'S' | b'X' => reasons::question(rt, body, kind)?,
+        _ => asking::question(rt, body, kind)?,
     }
-    io::write_all(STDOUT_FILENO, b".\n");
+    println!(rt; ".")
 }
+
+// The most bytes of a frame's body.
+const MOST_BODY: usize = 65536;
 
 // One frame; false where there is none.
-fn turn() -> bool {
+fn turn(rt: &impl Print, reader: &mut impl Read) -> io::Result<bool> {
     let mut head = [0u8; 7];
-    let got = io::read_full(STDIN_FILENO, &mut head);
-    if got != 7 {
-        return false;
+    if input::fill(reader, &mut head)? != 7 {
+        return Ok(false);
     }
     let n = numbers::of_digits(&head);
-    let mut buffer = io::large_buffer();
-    if buffer.len() < n {
-        return false;
+    if MOST_BODY < n {
+        return Ok(false);
     }
-    let got = io::read_full(STDIN_FILENO, &mut buffer[..n]);
-    answer(&buffer[..got]);
-    true
+    let mut body = [0u8; MOST_BODY];
+    let got = input::fill(reader, &mut body[..n])?;
+    answer(rt, &body[..got])?;
+    Ok(true)
 }
 
-fn main() {
-    let mut turns = u64::MAX;
-    while turns > 0 {
-        if !turn() {
-            return;
+fn main(rt: HostRuntime) -> io::Result<()> {
+    let mut reader = rt.reader();
+    for _ in 0..u64::MAX {
+        if !turn(&rt, &mut reader)? {
+            return Ok(());
         }
-        turns -= 1;
     }
+    Ok(())
 }

@@ -4,9 +4,9 @@ ghost use Rattle.std.specs.Prelude.{◌<◌};
 use crate::numbers::{line_end, line_of};
 use crate::telling;
 use labelling::label_line;
-use libc::STDOUT_FILENO;
 use readings::delays::{DelayGate, delay, label_delay};
 use readings::voltages::{Gate, Reading, label};
+use std::io;
 
 // The pattern of infinity; a greater one, but for its sign, is a NaN's.
 const INFINITE: u64 = 9218868437227405312;
@@ -53,9 +53,9 @@ fn voltage_gate(kind: u8, a: f64, b: f64) -> Gate {
 }
 
 // Lines: the gate's kind, its limits, the reading's ends.
-pub(crate) fn voltage(body: &[u8]) {
+pub(crate) fn voltage(rt: &impl Print, body: &[u8]) -> io::Result<()> {
     if body.len() < 3 {
-        return;
+        return Ok(());
     }
     let gate = voltage_gate(
         body[2],
@@ -66,7 +66,7 @@ pub(crate) fn voltage(body: &[u8]) {
         least: double(number(line_of(body, 38))),
         greatest: double(number(line_of(body, 55))),
     };
-    telling::labelled(label(reading, gate));
+    telling::labelled(rt, label(reading, gate))
 }
 
 fn count(bits: u64) -> u32 {
@@ -100,21 +100,18 @@ fn size(number: i32) -> u64
     number as u64
 }
 
-fn write_delay(delay: i32) {
-    io::write_all(STDOUT_FILENO, b"delay=");
+fn write_delay(rt: &impl Print, delay: i32) -> io::Result<()> {
     if delay < 0 {
-        io::write_all(STDOUT_FILENO, b"-");
-        io::print_decimal(STDOUT_FILENO, size(delay) + 1);
+        println!(rt; "delay=-{}", size(delay) + 1)
     } else {
-        io::print_decimal(STDOUT_FILENO, size(delay));
+        println!(rt; "delay={}", size(delay))
     }
-    io::write_all(STDOUT_FILENO, b"\n");
 }
 
 // Lines: the gate's kind, its limits, the two counters.
-pub(crate) fn ticks(body: &[u8]) {
+pub(crate) fn ticks(rt: &impl Print, body: &[u8]) -> io::Result<()> {
     if body.len() < 3 {
-        return;
+        return Ok(());
     }
     let gate = delay_gate(
         body[2],
@@ -125,20 +122,20 @@ pub(crate) fn ticks(body: &[u8]) {
         count(number(line_of(body, 22))),
         count(number(line_of(body, 31))),
     );
-    write_delay(d);
-    telling::labelled(label_delay(d, gate));
+    write_delay(rt, d)?;
+    telling::labelled(rt, label_delay(d, gate))
 }
 
 // Lines of the label desk; a last one without its line feed is in no form.
-pub(crate) fn lines(body: &[u8]) {
+pub(crate) fn lines(rt: &impl Print, body: &[u8]) -> io::Result<()> {
     let mut at: usize = 2;
     while at < body.len() {
         let end = line_end(body, at);
         if end == body.len() {
-            telling::number(19);
-            return;
+            return telling::number(rt, 19);
         }
-        telling::labelled(label_line(&body[at..end]));
+        telling::labelled(rt, label_line(&body[at..end]))?;
         at = end + 1;
     }
+    Ok(())
 }

@@ -3,37 +3,37 @@ use crate::asking::{LIST_NUMBERS, bytes, count, numbers};
 use crate::formulas::least;
 use crate::numbers::{ENTRIES, line_at, row_at};
 use crate::telling;
-use libc::STDOUT_FILENO;
 use pictures::{Ending, PictureAnswer};
+use std::io;
 
 fn checked(
+    rt: &impl Print,
     states: usize,
     transitions: &[u16],
     left: &[u8],
     right: &[u8],
     list: &[u16],
     ending: Ending,
-) {
+) -> io::Result<()> {
     let answer = pictures::check(states, transitions, left, right, list, ending);
-    telling::word(answer);
+    telling::word(rt, answer)
 }
 
-fn shown(list: &[u16], ending: Ending) {
-    telling::named(b"path=", list);
+fn shown(rt: &impl Print, list: &[u16], ending: Ending) -> io::Result<()> {
+    telling::named(rt, b"path=", list)?;
     match ending {
-        Ending::Falls => {
-            io::write_all(STDOUT_FILENO, b"falls\n");
-        }
+        Ending::Falls => println!(rt; "falls"),
         Ending::Back(place) => {
             let mut entry = [0u16; 1];
             entry[0] = (place % 65536) as u16;
-            telling::named(b"back=", &entry);
+            telling::named(rt, b"back=", &entry)
         }
     }
 }
 
 // The picture itself, or the word of the check on it, which is the same whichever picture it is.
 fn told(
+    rt: &impl Print,
     kind: u8,
     states: usize,
     transitions: &[u16],
@@ -41,30 +41,31 @@ fn told(
     right: &[u8],
     list: &[u16],
     ending: Ending,
-) {
+) -> io::Result<()> {
     if kind == b'S' {
-        shown(list, ending);
-        return;
+        return shown(rt, list, ending);
     }
-    io::write_all(STDOUT_FILENO, b"picture\n");
-    checked(states, transitions, left, right, list, ending);
+    println!(rt; "picture")?;
+    checked(rt, states, transitions, left, right, list, ending)
 }
 
 // A picture from a start, with so many entries of the space lent, or all where there are fewer.
 fn handed_out(
+    rt: &impl Print,
     kind: u8,
     head: &[u16; 3],
     transitions: &[u16],
     left: &[u8],
     right: &[u8],
     space: &mut [u16],
-) {
+) -> io::Result<()> {
     let states = count(head[0]);
     let start = count(head[1]);
     let room = least(count(head[2]), space.len());
     match pictures::picture(states, transitions, left, right, start, &mut space[..room]) {
         PictureAnswer::Picture(n, ending) => {
             told(
+                rt,
                 kind,
                 states,
                 transitions,
@@ -72,12 +73,10 @@ fn handed_out(
                 right,
                 numbers(space, n),
                 ending,
-            );
+            )
         }
-        PictureAnswer::None => {
-            io::write_all(STDOUT_FILENO, b"none\n");
-        }
-        PictureAnswer::Refused(refusal) => telling::number(refusal),
+        PictureAnswer::None => println!(rt; "none"),
+        PictureAnswer::Refused(refusal) => telling::number(rt, refusal),
     }
 }
 
@@ -91,7 +90,7 @@ fn ending(entries: usize, place: u16) -> Ending {
 
 // Lines: states, and for a picture start and room, for a list the place that it leads back to, if any; transitions;
 // left; right; and for a list the list.
-pub(crate) fn question(body: &[u8], kind: u8) {
+pub(crate) fn question(rt: &impl Print, body: &[u8], kind: u8) -> io::Result<()> {
     let mut head = [0u16; 3];
     let mut transitions = [0u16; LIST_NUMBERS];
     let mut left = [0u8; ENTRIES];
@@ -106,16 +105,16 @@ pub(crate) fn question(body: &[u8], kind: u8) {
     let lefts = bytes(&left, l.count);
     let rights = bytes(&right, r.count);
     if kind != b'X' {
-        handed_out(kind, &head, pairs, lefts, rights, &mut list);
-        return;
+        return handed_out(rt, kind, &head, pairs, lefts, rights, &mut list);
     }
     let end = ending(h.count, head[1]);
     checked(
+        rt,
         count(head[0]),
         pairs,
         lefts,
         rights,
         numbers(&list, p.count),
         end,
-    );
+    )
 }

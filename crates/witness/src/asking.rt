@@ -4,6 +4,7 @@ use crate::reasons::{Form, Reason, Rows};
 use crate::words::{Number, Wanted};
 use crate::{table, telling, words};
 use sheet::Sheet;
+use std::io;
 use text::Read;
 use values::limits::{
     MOST_LABELS, MOST_NODE_NUMBERS, MOST_NODES, MOST_STATES, MOST_TRANSITION_NUMBERS,
@@ -48,66 +49,106 @@ fn put_truth(states: usize, space: &mut [u8]) {
 }
 
 // With true on the left.
-fn tell_right(states: usize, transitions: &[u16], right: &[u8], form: Form, wanted: Wanted) {
+fn tell_right(
+    rt: &impl Print,
+    states: usize,
+    transitions: &[u16],
+    right: &[u8],
+    form: Form,
+    wanted: Wanted,
+) -> io::Result<()> {
     let mut truth = [0u8; MOST_STATES];
     put_truth(states, &mut truth);
     telling::tell(
+        rt,
         states,
         transitions,
         row(states, &truth, 0),
         right,
         form,
         wanted,
-    );
+    )
 }
 
 // A row that has no opposite is none, and a verdict space has no such row: nothing is told of one.
-fn tell_opposite(states: usize, transitions: &[u16], part: &[u8], form: Form, wanted: Wanted) {
+fn tell_opposite(
+    rt: &impl Print,
+    states: usize,
+    transitions: &[u16],
+    part: &[u8],
+    form: Form,
+    wanted: Wanted,
+) -> io::Result<()> {
     let mut opposite = [0u8; MOST_STATES];
     if kripke::rows::opposite_row(states, part, &mut opposite) {
-        tell_right(states, transitions, row(states, &opposite, 0), form, wanted);
+        tell_right(
+            rt,
+            states,
+            transitions,
+            row(states, &opposite, 0),
+            form,
+            wanted,
+        )?;
     }
+    Ok(())
 }
 
 // The two rows that the reason is found with, and what is told of them.
-fn tell(states: usize, transitions: &[u16], verdicts: &[u8], reason: Reason, wanted: Wanted) {
+fn tell(
+    rt: &impl Print,
+    states: usize,
+    transitions: &[u16],
+    verdicts: &[u8],
+    reason: Reason,
+    wanted: Wanted,
+) -> io::Result<()> {
     let Reason::Is(form, rows) = reason else {
-        return;
+        return Ok(());
     };
     match rows {
         Rows::Own(left, right) => {
             telling::tell(
+                rt,
                 states,
                 transitions,
                 row(states, verdicts, left),
                 row(states, verdicts, right),
                 form,
                 wanted,
-            );
+            )
         }
         Rows::Part(part) => {
             tell_right(
+                rt,
                 states,
                 transitions,
                 row(states, verdicts, part),
                 form,
                 wanted,
-            );
+            )
         }
         Rows::Opposite(part) => {
             tell_opposite(
+                rt,
                 states,
                 transitions,
                 row(states, verdicts, part),
                 form,
                 wanted,
-            );
+            )
         }
     }
 }
 
 // The model that was judged: its text is read once more, for the transitions and the nodes, in whose place a formula's come.
-fn ask(text: &[u8], word: &[u8], about: Number, verdicts: &[u8], wanted: Wanted) {
+fn ask(
+    rt: &impl Print,
+    text: &[u8],
+    word: &[u8],
+    about: Number,
+    verdicts: &[u8],
+    wanted: Wanted,
+) -> io::Result<()> {
     let mut labels = [0u8; MOST_LABELS];
     let mut initial = [0u8; MOST_STATES];
     let mut transitions = [0u16; MOST_TRANSITION_NUMBERS];
@@ -125,12 +166,12 @@ fn ask(text: &[u8], word: &[u8], about: Number, verdicts: &[u8], wanted: Wanted)
         &mut nodes,
     )
     else {
-        return;
+        return Ok(());
     };
     let edges = transitions_read(&transitions, e);
     let claim = wanted.claim;
-    let reason = table::reason_asked(about, word, n, &mut nodes, claim);
-    tell(s, edges, verdicts, reason, wanted);
+    let reason = table::reason_asked(rt, about, word, n, &mut nodes, claim)?;
+    tell(rt, s, edges, verdicts, reason, wanted)
 }
 
 fn judge(about: Number, text: &[u8], word: &[u8], verdicts: &mut [u8]) -> Sheet {
@@ -141,13 +182,12 @@ fn judge(about: Number, text: &[u8], word: &[u8], verdicts: &mut [u8]) -> Sheet 
 }
 
 // A word that is no number is a formula.
-pub(crate) fn answer(text: &[u8], word: &[u8], wanted: Wanted) {
+pub(crate) fn answer(rt: &impl Print, text: &[u8], word: &[u8], wanted: Wanted) -> io::Result<()> {
     let about = words::read(word);
     let mut verdicts = [0u8; MOST_VERDICTS];
     let sheet = judge(about, text, word, &mut verdicts);
     if sheet.number != 0 {
-        telling::refused(sheet.number);
-        return;
+        return telling::refused(rt, sheet.number);
     }
-    ask(text, word, about, &verdicts, wanted);
+    ask(rt, text, word, about, &verdicts, wanted)
 }

@@ -6,29 +6,30 @@
 //   table     the node that is asked about, of the model or of a formula
 //   reasons   the reason that its kind has for what is claimed
 //   telling   line after line, written out as it comes
+#![tactic(auto)]
+
 mod asking;
 mod reasons;
 mod table;
 mod telling;
 mod words;
 
-use libc::{STDIN_FILENO, STDOUT_FILENO};
+use std::env::Env;
+use std::io;
 use values::limits::{MOST_FORMULA, MOST_TEXT};
 use words::Question;
 
-fn main() {
-    let Question::Asked(wanted) = words::asked() else {
-        io::write_all(
-            STDOUT_FILENO,
-            b"no question: give a node or a formula, a state, true, possible or false, and at most how many paths if not all\n",
+fn main(rt: HostRuntime) -> io::Result<()> {
+    let Question::Asked(wanted) = words::asked(&rt) else {
+        return println!(rt;
+            "no question: give a node or a formula, a state, true, possible or false, and at most how many paths if not all"
         );
-        return;
     };
     // One byte more than a formula or a text may have: a longer one is seen to be too long. A word that isn't whole even so comes out
     // empty, and that is no formula either.
     let mut word = [0u8; MOST_FORMULA + 1];
-    let length = os::arg(1, &mut word);
+    let length = rt.arg(1, &mut word).unwrap_or(0);
     let mut text = [0u8; MOST_TEXT + 1];
-    let got = io::read_full(STDIN_FILENO, &mut text);
-    asking::answer(&text[..got], &word[..length], wanted);
+    let n = input::fill(&mut rt.reader(), &mut text)?;
+    asking::answer(&rt, &text[..n], &word[..length], wanted)
 }

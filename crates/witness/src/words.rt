@@ -1,7 +1,8 @@
 // The arguments: a node or a formula, a state, what is claimed of it there, and at most how many paths.
+use std::env::{Env, FillError};
 
 // What is claimed of the node or the formula, and a reason is wanted for.
-#[derive(Drop)]
+#[derive(Clone, Copy)]
 pub(crate) enum Claim {
     True,
     // True or unknown.
@@ -10,7 +11,7 @@ pub(crate) enum Claim {
 }
 
 // What is wanted of the node or the formula, which is the first word.
-#[derive(Drop)]
+#[derive(Clone, Copy)]
 pub(crate) struct Wanted {
     pub(crate) start: usize,
     pub(crate) claim: Claim,
@@ -25,7 +26,7 @@ pub(crate) enum Question {
 }
 
 // A word read as a number.
-#[derive(Drop)]
+#[derive(Clone, Copy)]
 pub(crate) enum Number {
     Is(usize),
     None,
@@ -75,9 +76,9 @@ pub(crate) fn read(word: &[u8]) -> Number {
     Number::Is(value)
 }
 
-fn number_at(i: usize) -> Number {
+fn number_at(rt: &impl Env, i: usize) -> Number {
     let mut word = [0u8; LONGEST];
-    let n = os::arg(i, &mut word);
+    let n = rt.arg(i, &mut word).unwrap_or(0);
     read(&word[..n])
 }
 
@@ -96,9 +97,9 @@ fn is_word(word: &[u8], name: &[u8]) -> bool {
     true
 }
 
-fn claim_at(i: usize) -> Claimed {
+fn claim_at(rt: &impl Env, i: usize) -> Claimed {
     let mut word = [0u8; LONGEST];
-    let n = os::arg(i, &mut word);
+    let n = rt.arg(i, &mut word).unwrap_or(0);
     if is_word(&word[..n], b"true") {
         return Claimed::Is(Claim::True);
     }
@@ -111,26 +112,40 @@ fn claim_at(i: usize) -> Claimed {
     Claimed::None
 }
 
+// One word more than is ever asked with, the program's name among them.
+const MOST_WORDS: usize = 6;
+
+// How many words the program was called with, its name among them; from the most on they aren't counted.
+fn word_count(rt: &impl Env) -> usize {
+    for i in 0..MOST_WORDS {
+        // No space is lent: what is given is too long for it, or empty.
+        if let Err(FillError::NotPresent) = rt.arg(i, &mut []) {
+            return i;
+        }
+    }
+    MOST_WORDS
+}
+
 // The last word, where there is one: without it every path is told.
-fn most_at(count: usize) -> Number {
+fn most_at(rt: &impl Env, count: usize) -> Number {
     if count == 4 {
         return Number::Is(usize::MAX);
     }
     if count == 5 {
-        return number_at(4);
+        return number_at(rt, 4);
     }
     Number::None
 }
 
 // The words behind the first.
-pub(crate) fn asked() -> Question {
-    let Number::Is(most) = most_at(os::arg_count()) else {
+pub(crate) fn asked(rt: &impl Env) -> Question {
+    let Number::Is(most) = most_at(rt, word_count(rt)) else {
         return Question::Wrong;
     };
-    let Number::Is(start) = number_at(2) else {
+    let Number::Is(start) = number_at(rt, 2) else {
         return Question::Wrong;
     };
-    let Claimed::Is(claim) = claim_at(3) else {
+    let Claimed::Is(claim) = claim_at(rt, 3) else {
         return Question::Wrong;
     };
     Question::Asked(Wanted { start, claim, most })

@@ -1,0 +1,7 @@
+-- Each line lies within the buffer.
+use native.Mathlib.Omega.{arith}
+use Rattle.sheet.proofs.Output.{line_within}
+use Rattle.desk.proofs.write_answer.Goals as goal
+
+pub slice_bounds-buffer-end : goal.slice_bounds-buffer-end
+slice_bounds-buffer-end g c = omega (arith, line_within _ _ _ _ _ c.write_line.ensures c.in-Bytes.is)

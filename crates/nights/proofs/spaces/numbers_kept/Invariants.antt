@@ -1,0 +1,10 @@
+-- `numbers_kept` ends and stays within both lists.
+use Prim.Native.Nat.{◌-◌}
+use lib.ListN.{length}
+use Rattle.nights.proofs.spaces.numbers_kept.Given as goal
+
+abbrev pub invariant-loop-i : goal.invariant-loop-i
+invariant-loop-i l = Unit {0}
+
+abbrev pub decreases-loop-i : goal.decreases-loop-i
+decreases-loop-i l = length l.now - l.i
