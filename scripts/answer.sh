@@ -1,11 +1,9 @@
 # How ./ask, ./desk, ./witness and ./label run their program and tell its answer.
 # shellcheck shell=sh disable=SC2154,SC2034 # names that another of these files sets or reads
 
-# Programs are for x86-64; on another processor the kit has an emulator. They get no environment: it could only mislead loader and emulator.
+# Programs are for x86-64. They get no environment: it could only mislead their loader.
 start() { # ARGUMENTS
-    emulator=$tools/bin/qemu-x86_64
-    [ -x "$emulator" ] || emulator=''
-    exec env -i ${emulator:+"$emulator"} "$tools/lib/ld-linux-x86-64.so.2" --library-path "$tools/lib" "$root/target/bin/$name" "$@"
+    exec env -i "$root/$(place_of "$name")" "$@"
 }
 
 # What awk does to a line of the answer before it passes on.

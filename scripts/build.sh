@@ -3,22 +3,24 @@
 programs='ask desk witness label'
 record=$root/target/built
 
+# Where rt leaves a program that it has proved and built.
+place_of() { echo "crates/$1/out/$1"; } # PROGRAM
+
 find_kit() {
     command -v rt >/dev/null 2>&1 || die 3 "rt isn't there: install the Rattle kit and put its folder bin on the PATH"
-    { guide=$(rt doc) && kit=$(rt version) && machine=$(uname -m); } || die 3 "rt doesn't say where its kit is"
-    tools=${guide%/*}
-    tools=${tools%/*}/on/$machine/toolchain
+    { kit=$(rt version) && machine=$(uname -m); } || die 3 "rt doesn't say what kit it is"
 }
 
-# What a build is made from, in $sources: the kit, the machine and every file of the crates, whatever its date.
+# What a build is made from, in $sources: the kit, the machine and every file of the crates, whatever its date; not what rt makes of them.
 read_sources() {
-    files=$(cd -- "$root" && find crates.txt crates -name must-fail -prune -o -type f -exec sha256sum {} +) || die 3 "the sources can't be read"
+    files=$(cd -- "$root" && find crates.txt crates \( -name must-fail -o -name out \) -prune -o -type f -exec sha256sum {} +) ||
+        die 3 "the sources can't be read"
     sum=$(printf '%s\n' "$files" | sort | sha256sum)
     sources="$kit, $machine, ${sum%% *}"
 }
 
 sums() { # PROGRAMS
-    (cd -- "$root/target/bin" 2>/dev/null && sha256sum "$@" 2>/dev/null)
+    (cd -- "$root" 2>/dev/null && for program; do sha256sum "$(place_of "$program")" 2>/dev/null || exit; done)
 }
 
 # The record of the last build says of which sources it was, and what the programs were then.
@@ -29,6 +31,9 @@ current() {
     now=$(echo "$sources" && sums $programs) || return 1
     [ "$was" = "$now" ]
 }
+
+# Notes that the programs, of which $now has the sums, were proved and built of $sources.
+note_built() { { printf '%s\n%s\n' "$sources" "$now" >"$record.new" && mv "$record.new" "$record"; } 2>/dev/null; }
 
 # One call at a time builds in a checkout; the lock is the checkout's own folder, and falls with the last process that holds it.
 lock() {
@@ -62,23 +67,25 @@ crates_needed() {
         END { n = split(wanted, list, " "); for (i = 1; i <= n; i++) visit(list[i]); print count + 0 }' <"$root/crates.txt"
 }
 
-# What the prover says, kept, and how far it is, told crate by crate.
+# What the prover says, kept, and how far it is, told crate by crate. Of a crate that is as it was it says nothing.
 tell_progress() {
-    so_far=0
+    so_far=0 crate=''
     while IFS= read -r line || [ -n "$line" ]; do
         printf '%s\n' "$line" >>"$own/said"
         case $line in
-            'rt: '*' proved (unchanged '*) so_far=$((so_far + 1)) ;;
-            'rt: '*' proved ('*)
+            'crate '*': modules '*)
+                crate=${line#crate }
+                crate=${crate%%: *}
+                ;;
+            'logic=proved '*)
                 so_far=$((so_far + 1))
-                line=${line#rt: }
-                say "$so_far of $needed: ${line% proved*} is proved (${line#*\(}"
+                say "$so_far of $needed: $crate is proved"
                 ;;
         esac
     done
 }
 
-# The kit's stamps know which crates have changed, but not whether a program is still the one that was built: one that isn't loses its stamp.
+# rt proves what has changed, and links each program anew that isn't the one that it linked last; then it runs it, here on nothing.
 build() {
     if [ -f "$record" ]; then
         say "the sources or the programs aren't those of the last build: proving and building what has changed"
@@ -87,12 +94,13 @@ build() {
     fi
     { mkdir -p "$root/target" 2>/dev/null && [ -w "$root/target" ]; } || die 3 "$root/target can't be written"
     needed=$(crates_needed)
-    for program in $programs; do
-        { sum=$(sums "$program") && grep -qxF "$sum" "$record" 2>/dev/null; } || rm -f "$root/target/stamp/$program"
-    done
     mkfifo "$own/progress" || no_room
     starting=yes
-    (cd -- "$root" && TMPDIR=$scratch && export TMPDIR && exec setsid rt check $programs) </dev/null >"$own/progress" 2>&1 &
+    # shellcheck disable=SC2016 # the inner shell's own
+    (cd -- "$root/crates" && TMPDIR=$scratch && export TMPDIR && exec setsid sh -c '
+        for program; do
+            (cd -- "$program" && exec rt run) </dev/null 2>&1 >/dev/null || exit
+        done' sh $programs) </dev/null >"$own/progress" 2>&1 &
     group=$!
     tell_progress <"$own/progress" &
     at_work=$!
@@ -106,7 +114,7 @@ build() {
         cat "$own/said" >&2
         die 3 "the programs aren't proved or can't be built; what the prover said stands above"
     fi
-    { printf '%s\n%s\n' "$sources" "$now" >"$record.new" && mv "$record.new" "$record"; } 2>/dev/null || die 3 "$root/target can't be written"
+    note_built || die 3 "$root/target can't be written"
 }
 
 # Once the lock is held it is looked again: whoever held it before may have built.

@@ -84,12 +84,12 @@ help() {
     exit 3
 }
 
-# Others may pass through the folder, as a program that is tried as nobody must; what is the caller's own stands in own/.
+# rt's own temporary files go to the folder itself, and all else into own/.
 make_scratch() {
     scratch=$(mktemp -d 2>/dev/null) || { scratch='' && die 3 "no temporary folder can be made in ${TMPDIR:-/tmp}"; }
     whole=$(cd -- "$scratch" && pwd -P) && scratch=$whole
     own=$scratch/own model=$scratch/own/model judged=$scratch/own/model
-    { chmod 711 "$scratch" && mkdir -m 700 "$own" && true >"$model" && true >"$own/said"; } 2>/dev/null || no_room
+    { mkdir -m 700 "$own" && true >"$model" && true >"$own/said"; } 2>/dev/null || no_room
 }
 
 no_room() { die 3 "the temporary folder $scratch can't be used, or has no room"; }

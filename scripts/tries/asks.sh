@@ -2,14 +2,17 @@
 # shellcheck shell=bash disable=SC2154,SC2034 # names that another of these files sets or reads
 out=$room/out err=$room/err
 call() { # COMMAND: its status in $got
-    timeout 120 "$@" 2>"$err"
+    timeout 600 "$@" 2>"$err"
     got=$?
 }
 status() { [ "$got" = "$1" ] || { echo "ended with $got and not $1"; return 1; }; }
 says() { grep -qF -- "$1" "$err" || { echo "doesn't say: $1; says: $(tail -n 2 "$err" | tr '\n' ' ')"; return 1; }; }
 wrote() { [ "$(cat "$out")" = "$1" ] || { echo "wrote: $(head -c 200 "$out" | tr '\n' ' ')"; return 1; }; }
 no_scratch() { [ -z "$(ls -A "$room/temporary")" ] || { echo "left: $(find "$room/temporary" | head -n 3 | tr '\n' ' ')"; rm -rf "$room"/temporary/*; return 1; }; }
-builds() { [ "$(grep -c '^check$' "$room/calls")" = "$1" ] || { echo "$(grep -c '^check$' "$room/calls") builds and not $1"; return 1; }; }
+builds() { # COUNT: a build is a run of each program
+    runs=$(grep -c '^run$' "$room/calls")
+    [ "$runs" = $(($1 * ${#stand_ins[@]})) ] || { echo "$runs runs of ${#stand_ins[@]} programs, and not $1 builds"; return 1; }
+}
 at_work() { # the processes of a call, by the mark in their environment or by their words: number and words
     for process in /proc/[0-9]*; do
         number=${process#/proc/}
@@ -33,7 +36,10 @@ none_at_work() {
     return 1
 }
 good() { status 0 && wrote "$answer" && no_scratch; }
-unbuilt() { rm -rf "$house"/target/bin "$house"/target/built* "$house"/target/*.built "${stand_ins[@]/#/$house/target/stamp/}"; }
+unbuilt() {
+    rm -f "$house"/target/built*
+    for program in "${stand_ins[@]}"; do rm -f "$house/crates/$program/out/$program" "$house/crates/$program/out/$program.stamp"; done
+}
 as_nobody() { # COMMAND
     if [ "$(id -u)" = 0 ]; then call setpriv --reuid=65534 --regid=65534 --clear-groups "$@"; else call "$@"; fi
 }

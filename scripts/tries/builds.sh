@@ -52,14 +52,14 @@ new_date() {
 }
 damaged() { # COMMAND on the program
     settle
-    "$@" "$house/target/bin/desk"
+    "$@" "$house/crates/desk/out/desk"
     call "$desk" good >"$out"
     good && builds 1
 }
 one_more() { # a checkout in which another program wasn't there at the last build
     settle
-    rm -f "$house/target/bin/${stand_ins[-1]}"
-    sed -i "/ ${stand_ins[-1]}\$/d" "$house/target/built"
+    rm -f "$house/crates/${stand_ins[-1]}/out/${stand_ins[-1]}"
+    sed -i "/\/${stand_ins[-1]}\$/d" "$house/target/built"
     call "$desk" good >"$out"
     good && builds 1 && [ "$(wc -l <"$house/target/built")" = $((${#stand_ins[@]} + 1)) ]
 }

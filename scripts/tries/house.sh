@@ -6,51 +6,67 @@ for late in ask label; do [ ! -e "$checkout/$late" ] || stand_ins+=("$late"); do
 cp -R "${stand_ins[@]/#/$checkout/}" "$checkout/scripts" "$house"
 cp "$checkout/docs/RULES.md" "$house/docs"
 for crate in values "${stand_ins[@]}"; do mkdir -p "$house/crates/$crate/src"; done
-printf '%s\n' values: "${stand_ins[@]/%/: values bytes os io libc}" >"$house/crates.txt"
-printf '%s\n' 'pub mod limits;' >"$house/crates/values/src/lib.rt"
+printf '%s\n' values: "${stand_ins[@]/%/: values}" >"$house/crates.txt"
+printf '%s\n' '#![tactic(auto)]' '' 'pub mod limits;' >"$house/crates/values/src/lib.rt"
 printf '%s\n' 'pub const MOST_TEXT: usize = 32768;' >"$house/crates/values/src/limits.rt"
 source=$house/crates/desk/src/main.rt
 cat >"$source" <<'END'
 // A stand-in: writes what the text has behind its first #.
-use libc::STDIN_FILENO;
-use libc::STDOUT_FILENO;
+#![tactic(auto)]
+
+use std::io;
+use std::io::Read;
 use values::limits::MOST_TEXT;
 
-fn main() {
-    let mut text = [0u8; MOST_TEXT + 1];
-    let got = io::read_full(STDIN_FILENO, &mut text);
-    let at = bytes::scan::find(&text, 0, got, b'#');
-    if at < got {
-        io::write_all(STDOUT_FILENO, &text[at + 1..got]);
+fn main(rt: HostRuntime) -> io::Result<()> {
+    let mut text = Vec::new(rt.alloc());
+    rt.reader()
+        .take(MOST_TEXT as u64 + 1)
+        .read_to_end(&mut text)?;
+    match text.splitn(2, |byte| *byte == b'#').nth(1) {
+        Some(behind) => rt.write_all(behind),
+        None => Ok(()),
     }
 }
 END
 cat >"$house/crates/witness/src/main.rt" <<'END'
 // A stand-in: writes what the text has behind its first #, and in place of a % its own two words.
-use libc::STDIN_FILENO;
-use libc::STDOUT_FILENO;
+#![tactic(auto)]
+
+use std::env::Env;
+use std::io;
+use std::io::Read;
 use values::limits::MOST_TEXT;
 
-fn put_word(i: usize) {
+fn put_word(rt: &(impl Env + Print), i: usize) -> io::Result<()> {
     let mut word = [0u8; 64];
-    let n = os::arg(i, &mut word);
-    io::write_all(STDOUT_FILENO, b"[");
-    io::write_all(STDOUT_FILENO, &word[..n]);
-    io::write_all(STDOUT_FILENO, b"]");
+    let n = rt.arg(i, &mut word).unwrap_or(0);
+    rt.write_all(b"[")?;
+    rt.write_all(&word[..n])?;
+    rt.write_all(b"]")
 }
 
-fn main() {
-    let mut text = [0u8; MOST_TEXT + 1];
-    let got = io::read_full(STDIN_FILENO, &mut text);
-    let at = bytes::scan::find(&text, 0, got, b'#');
-    if at < got {
-        let mark = bytes::scan::find(&text, at + 1, got, b'%');
-        io::write_all(STDOUT_FILENO, &text[at + 1..mark]);
-        if mark < got {
-            put_word(1);
-            put_word(2);
-            io::write_all(STDOUT_FILENO, &text[mark + 1..got]);
-        }
+fn put(rt: &(impl Env + Print), text: &[u8]) -> io::Result<()> {
+    let mut parts = text.splitn(2, |byte| *byte == b'%');
+    if let Some(before) = parts.next() {
+        rt.write_all(before)?;
+    }
+    if let Some(behind) = parts.next() {
+        put_word(rt, 1)?;
+        put_word(rt, 2)?;
+        rt.write_all(behind)?;
+    }
+    Ok(())
+}
+
+fn main(rt: HostRuntime) -> io::Result<()> {
+    let mut text = Vec::new(rt.alloc());
+    rt.reader()
+        .take(MOST_TEXT as u64 + 1)
+        .read_to_end(&mut text)?;
+    match text.splitn(2, |byte| *byte == b'#').nth(1) {
+        Some(behind) => put(&rt, behind),
+        None => Ok(()),
     }
 }
 END
@@ -59,8 +75,9 @@ line_by_line() {
     cat >"$1/src/main.rt" <<'END'
 // A stand-in: writes for each line what it has behind its first #, or answer=19 where it has none. There a | is a line feed, and behind a
 // second # nothing is written, the line's own feed neither.
-use libc::STDIN_FILENO;
-use libc::STDOUT_FILENO;
+#![tactic(auto)]
+
+use std::io;
 
 // where the next byte stands
 const FIRST: u8 = 0;
@@ -73,72 +90,54 @@ const CUT: u8 = 3;
 
 const NOWHERE: u8 = 4;
 
-fn end_line(place: u8) {
+fn end_line(rt: &impl Print, place: u8) -> io::Result<()> {
     if place <= BEFORE {
-        io::write_all(STDOUT_FILENO, b"answer=19\n");
+        return rt.write_all(b"answer=19\n");
     }
     if place == BEHIND {
-        io::write_all(STDOUT_FILENO, b"\n");
+        return rt.write_all(b"\n");
     }
+    Ok(())
 }
 
-fn pass_byte(place: u8) -> u8 {
+fn pass_byte(rt: &impl Print, input: &mut impl io::Read, place: u8) -> io::Result<u8> {
     let mut byte = [0u8; 1];
-    if io::read_full(STDIN_FILENO, &mut byte) == 0 {
+    if input.read(&mut byte)? == 0 {
         if place != FIRST {
-            end_line(place);
+            end_line(rt, place)?;
         }
-        return NOWHERE;
+        return Ok(NOWHERE);
     }
     let sign = byte[0];
     if sign == b'\n' {
-        end_line(place);
-        return FIRST;
+        end_line(rt, place)?;
+        return Ok(FIRST);
     }
     if place <= BEFORE {
-        return if sign == b'#' { BEHIND } else { BEFORE };
+        return Ok(if sign == b'#' { BEHIND } else { BEFORE });
     }
     if place == CUT || sign == b'#' {
-        return CUT;
+        return Ok(CUT);
     }
     if sign == b'|' {
-        io::write_all(STDOUT_FILENO, b"\n");
+        rt.write_all(b"\n")?;
     } else {
-        io::write_all(STDOUT_FILENO, &byte);
+        rt.write_all(&byte)?;
     }
-    BEHIND
+    Ok(BEHIND)
 }
 
-fn main() {
+fn main(rt: HostRuntime) -> io::Result<()> {
+    let mut input = rt.reader();
     let mut place = FIRST;
-    let mut turns = u64::MAX;
-    while turns > 0 && place < NOWHERE {
-        place = pass_byte(place);
-        turns -= 1;
+    for _ in 0..u64::MAX {
+        if place == NOWHERE {
+            return Ok(());
+        }
+        place = pass_byte(&rt, &mut input, place)?;
     }
+    Ok(())
 }
-END
-    mkdir -p "$1/proofs/main"
-    cat >"$1/proofs/main/Proof.antt" <<'END'
--- The loop ends, since the turns that are left become fewer. Nothing has to hold from turn to turn.
-use native.Mathlib.Omega.{arith}
-use Rattle·label·proofs.proofs.main.Statement.{statement}
-use Rattle·label·proofs.proofs.main.Tie as tie
-
-abbrev Inv-loop : tie.InvT-loop
-Inv-loop place₀ turns₀ place turns = Unit {0}
-
-abbrev μ-loop : tie.MeasureT-loop
-μ-loop place₀ turns₀ place turns = turns
-
-sub-turns : tie.Need-sub-turns Inv-loop μ-loop
-sub-turns c = omega arith
-
-loop-less : tie.Need-loop-less Inv-loop μ-loop
-loop-less c = omega arith
-
-pub main-spec : {M : Type 1} → statement M
-main-spec = tie.close (tie.spec Inv-loop μ-loop (λ c. tt) (λ c κs. tt) sub-turns loop-less (λ c. tt) (λ c. tt) (λ c. tt))
 END
 }
 [ ! -e "$house/label" ] || line_by_line "$house/crates/label"
