@@ -1,7 +1,7 @@
 // A stream's bytes read into a space of fixed size, lent by the caller: no memory is asked for.
 #![tactic(auto)]
 
-ghost use Rattle.std.specs.Prelude.{◌≡◌, ◌+◌, ◌<◌, ◌≤◌, length, take, drop, IfOk, OnErr};
+ghost use Rattle.std.specs.Prelude.{◌≡◌, ℕ, ◌+◌, ◌<◌, ◌≤◌, length, take, drop, IfOk, OnErr};
 ghost use Rattle.std.specs.Io.KnownBytes.{Keeps, Consumes, IsAtEnd};
 ghost use Rattle.std.specs.Io.{ReadsAtMost};
 
@@ -31,15 +31,18 @@ fn read_behind<R: Read>(reader: &mut R, space: &mut [u8], n: usize) -> io::Resul
     ensures within { IfOk result (λ more. n + more ≤ length space.new) }
     ensures given { IfOk result (λ more. Consumes (R.remaining reader.old) (R.remaining reader.new) (take more (drop n space.new))) }
     ensures end { IfOk result (λ more. more ≡ 0 → IsAtEnd (R.remaining reader.new)) }
+    ensures failed { OnErr result (Keeps (R.remaining reader.old) (R.remaining reader.new)) }
 {
     read_some(reader, &mut space[n..])
 }
 
-// Reads until the space is full or the stream ends; how many bytes of the space were read. A stream that ended is not read again.
+// Reads until the space is full, the stream ends or a read fails; how many bytes of the space were read. A stream that ended is not read again.
+// After a failure what was read before it stands at the front of the space.
 pub fn fill<R: Read>(reader: &mut R, space: &mut [u8]) -> io::Result<usize>
     ensures within { IfOk result (λ n. n ≤ length space.new) }
     ensures given { IfOk result (λ n. Consumes (R.remaining reader.old) (R.remaining reader.new) (take n space.new)) }
     ensures end { IfOk result (λ n. n < length space.new → IsAtEnd (R.remaining reader.new)) }
+    ensures failed { OnErr result ((n : ℕ) × (n < length space.new) × Consumes (R.remaining reader.old) (R.remaining reader.new) (take n space.new)) }
 {
     let mut n: usize = 0;
     while n < space.len() {
