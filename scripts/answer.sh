@@ -1,9 +1,10 @@
 # How ./ask, ./desk, ./witness and ./label run their program and tell its answer.
 # shellcheck shell=sh disable=SC2154,SC2034 # names that another of these files sets or reads
 
-# Programs are for x86-64. They get no environment: it could only mislead their loader.
+# Programs are for x86-64. They get no environment: it could only mislead their loader. They are started from the checkout, since env takes a word
+# with a = in it, as the checkout's own path may have one, for a setting.
 start() { # ARGUMENTS
-    exec env -i "$root/$(place_of "$name")" "$@"
+    cd -- "$root" && exec env -i "$(place_of "$name")" "$@"
 }
 
 # What awk does to a line of the answer before it passes on.
@@ -29,7 +30,7 @@ pass() { # AWK-RULES ARGUMENTS
     shift
     mkfifo "$own/raw" "$own/passed" || no_room
     starting=yes
-    start "$@" <"$judged" >"$own/raw" &
+    start "$@" <"$judged" >"$own/raw" 2>"$own/said" &
     program=$!
     kept=$own/lines awk "$telling { print } $rules" <"$own/raw" >"$own/passed" &
     passer=$!
@@ -48,8 +49,11 @@ pass() { # AWK-RULES ARGUMENTS
     at_work=''
     [ "$written" -ne 141 ] || exit 141 # who read the answer has gone
     [ "$written" -eq 0 ] || die 3 "the answer can't be written"
-    [ "$ran" -eq 0 ] || die 3 "the program failed with status $ran"
-    { [ "$passed" -eq 0 ] && [ -s "$own/lines" ]; } || no_room
+    # an awk that had no room ended the program too, by taking nothing more
+    [ "$passed" -eq 0 ] || no_room
+    # what the program says where nobody takes the answer any more is no news
+    [ "$ran" -eq 0 ] || { cat "$own/said" >&2; die 3 "the program failed with status $ran"; }
+    [ -s "$own/lines" ] || no_room
 }
 
 # The answer's first line is kept in $first and its last in $last.

@@ -79,7 +79,7 @@ with_awk() { # AWK
     mkdir -p "$room/other"
     printf '#!/bin/sh\nexec %s "$@"\n' "$*" >"$room/other/awk"
     chmod +x "$room/other/awk"
-    PATH=$room/other:$PATH new_forms env
+    PATH=$room/other:$PATH new_forms nice -n 0
 }
 
 if [ -e "$house/ask" ]; then

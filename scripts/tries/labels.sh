@@ -87,13 +87,13 @@ label_secret() {
 }
 label_linked() {
     mkdir -p "$room/links"
-    ln -sf '../a house/label' "$room/links/measure"
+    ln -sf "../${house##*/}/label" "$room/links/measure"
     call "$room/links/measure" lines >"$out"
     labelled
 }
 label_cd_path() {
     cd "$room" || return 1
-    CDPATH=$room:. call 'a house/label' models/lines >"$out"
+    CDPATH=$room:. call "${house##*/}/label" models/lines >"$out"
     labelled
 }
 label_settings() { copy=x taken=x most_line=1 most_told=0 refused=9 unfinished=1 kept=/dev/null call "$label" lines >"$out"; labelled; }

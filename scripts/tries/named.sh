@@ -46,7 +46,7 @@ named_with() { # AWK
     mkdir -p "$room/other"
     printf '#!/bin/sh\nexec %s "$@"\n' "$*" >"$room/other/awk"
     chmod +x "$room/other/awk"
-    PATH=$room/other:$PATH named_by env
+    PATH=$room/other:$PATH named_by nice -n 0
 }
 
 if [ -e "$house/scripts/named.awk" ]; then

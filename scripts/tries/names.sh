@@ -16,14 +16,14 @@ dashes_alone() { call "$desk" -- <good >"$out"; good; }
 wrong_option() { call "$desk" -x <good >"$out"; status 2 && says "-x" && wrote ""; }
 linked() {
     mkdir -p "$room/links"
-    ln -sf '../a house/desk' "$room/links/once"
+    ln -sf "../${house##*/}/desk" "$room/links/once"
     ln -sf once "$room/links/twice"
     call "$room/links/twice" good >"$out"
     good
 }
 cd_path() {
     cd "$room" || return 1
-    CDPATH=$room:. call 'a house/desk' models/good >"$out"
+    CDPATH=$room:. call "${house##*/}/desk" models/good >"$out"
     good
 }
 no_tmp() { TMPDIR=$room/nowhere call "$desk" good >"$out"; status 3 && says "$room/nowhere"; }

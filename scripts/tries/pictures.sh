@@ -33,7 +33,7 @@ claimed_with() { # AWK
     mkdir -p "$room/other"
     printf '#!/bin/sh\nexec %s "$@"\n' "$*" >"$room/other/awk"
     chmod +x "$room/other/awk"
-    PATH=$room/other:$PATH claimed_by env
+    PATH=$room/other:$PATH claimed_by nice -n 0
 }
 
 # How a reason is told, and its two rows in letters; nothing where the kind has none for the claim.

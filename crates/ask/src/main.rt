@@ -14,7 +14,7 @@ use values::limits::{MOST_FORMULA, MOST_TEXT, MOST_VERDICTS};
 const MOST_WORDS: usize = 4;
 
 // How many words the program was called with, its name among them; from the most on they aren't counted.
-fn word_count(rt: &impl Env) -> usize {
+fn word_count(rt: &HostRuntime) -> usize {
     for i in 0..MOST_WORDS {
         // No space is lent: what is given is too long for it, or empty.
         if let Err(FillError::NotPresent) = rt.arg(i, &mut []) {
@@ -26,11 +26,11 @@ fn word_count(rt: &impl Env) -> usize {
 
 // One byte more than a text or a formula may have: a longer one is seen to be too long. A word that isn't whole even so comes out empty,
 // and that is no formula either.
-fn answer(rt: &(impl Env + Input + Print), parts: bool) -> io::Result<()> {
+fn answer(rt: &HostRuntime, parts: bool) -> io::Result<()> {
     let mut formula = [0u8; MOST_FORMULA + 1];
     let length = rt.arg(1, &mut formula).unwrap_or(0);
     let mut text = [0u8; MOST_TEXT + 1];
-    let n = input::fill(&mut rt.reader(), &mut text)?;
+    let n = input::fill(&mut rt.stdin(), &mut text)?;
     let mut verdicts = [0u8; MOST_VERDICTS];
     let sheet = sheet::judge_formula(&text[..n], &formula[..length], &mut verdicts);
     telling::number(rt, sheet, &verdicts)?;

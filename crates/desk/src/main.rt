@@ -23,7 +23,7 @@ fn write_answer(rt: &impl Print, sheet: Sheet, verdicts: &[u8]) -> io::Result<()
 fn main(rt: HostRuntime) -> io::Result<()> {
     // One byte more than a text may have: a longer one is seen to be too long.
     let mut text = [0u8; MOST_TEXT + 1];
-    let n = input::fill(&mut rt.reader(), &mut text)?;
+    let n = input::fill(&mut rt.stdin(), &mut text)?;
     let mut verdicts = [0u8; MOST_VERDICTS];
     let sheet = sheet::judge_text(&text[..n], &mut verdicts);
     write_answer(&rt, sheet, &verdicts)

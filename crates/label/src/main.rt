@@ -117,7 +117,7 @@ fn read_lines(rt: &impl Print, reader: &mut impl io::Read, line: &mut [u8]) -> i
 // A last line without its line feed may have been cut off, and is in no form.
 fn main(rt: HostRuntime) -> io::Result<()> {
     let mut line = [0u8; KEPT];
-    if read_lines(&rt, &mut rt.reader(), &mut line)? != 0 {
+    if read_lines(&rt, &mut rt.stdin(), &mut line)? != 0 {
         refused(&rt, 19)?;
     }
     Ok(())

@@ -28,8 +28,7 @@ use std::io;
 const MOST_CASES: usize = 65536;
 
 fn main(rt: HostRuntime) -> io::Result<()> {
-    let mut reader = rt.reader();
     let mut cases = [0u8; MOST_CASES];
-    let n = input::fill(&mut reader, &mut cases)?;
+    let n = input::fill(&mut rt.stdin(), &mut cases)?;
     cases::run(&rt, &cases[..n])
 }

@@ -89,7 +89,7 @@ fn turn(rt: &impl Print, reader: &mut impl Read) -> io::Result<bool> {
 }
 
 fn main(rt: HostRuntime) -> io::Result<()> {
-    let mut reader = rt.reader();
+    let mut reader = rt.stdin();
     for _ in 0..u64::MAX {
         if !turn(&rt, &mut reader)? {
             return Ok(());

@@ -30,6 +30,6 @@ fn main(rt: HostRuntime) -> io::Result<()> {
     let mut word = [0u8; MOST_FORMULA + 1];
     let length = rt.arg(1, &mut word).unwrap_or(0);
     let mut text = [0u8; MOST_TEXT + 1];
-    let n = input::fill(&mut rt.reader(), &mut text)?;
+    let n = input::fill(&mut rt.stdin(), &mut text)?;
     asking::answer(&rt, &text[..n], &word[..length], wanted)
 }

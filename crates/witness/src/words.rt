@@ -76,7 +76,7 @@ pub(crate) fn read(word: &[u8]) -> Number {
     Number::Is(value)
 }
 
-fn number_at(rt: &impl Env, i: usize) -> Number {
+fn number_at(rt: &HostRuntime, i: usize) -> Number {
     let mut word = [0u8; LONGEST];
     let n = rt.arg(i, &mut word).unwrap_or(0);
     read(&word[..n])
@@ -97,7 +97,7 @@ fn is_word(word: &[u8], name: &[u8]) -> bool {
     true
 }
 
-fn claim_at(rt: &impl Env, i: usize) -> Claimed {
+fn claim_at(rt: &HostRuntime, i: usize) -> Claimed {
     let mut word = [0u8; LONGEST];
     let n = rt.arg(i, &mut word).unwrap_or(0);
     if is_word(&word[..n], b"true") {
@@ -116,7 +116,7 @@ fn claim_at(rt: &impl Env, i: usize) -> Claimed {
 const MOST_WORDS: usize = 6;
 
 // How many words the program was called with, its name among them; from the most on they aren't counted.
-fn word_count(rt: &impl Env) -> usize {
+fn word_count(rt: &HostRuntime) -> usize {
     for i in 0..MOST_WORDS {
         // No space is lent: what is given is too long for it, or empty.
         if let Err(FillError::NotPresent) = rt.arg(i, &mut []) {
@@ -127,7 +127,7 @@ fn word_count(rt: &impl Env) -> usize {
 }
 
 // The last word, where there is one: without it every path is told.
-fn most_at(rt: &impl Env, count: usize) -> Number {
+fn most_at(rt: &HostRuntime, count: usize) -> Number {
     if count == 4 {
         return Number::Is(usize::MAX);
     }
@@ -138,7 +138,7 @@ fn most_at(rt: &impl Env, count: usize) -> Number {
 }
 
 // The words behind the first.
-pub(crate) fn asked(rt: &impl Env) -> Question {
+pub(crate) fn asked(rt: &HostRuntime) -> Question {
     let Number::Is(most) = most_at(rt, word_count(rt)) else {
         return Question::Wrong;
     };
