@@ -25,6 +25,7 @@ pub fn read_some<R: Read>(reader: &mut R, space: &mut [u8]) -> io::Result<usize>
 }
 
 // One read behind the first n bytes of a space, which stay.
+// kept: n beside the space, since what stays is the front that is not read into.
 fn read_behind<R: Read>(reader: &mut R, space: &mut [u8], n: usize) -> io::Result<usize>
     requires { n < length space.old }
     ensures front { take n space.new ≡ take n space.old }
@@ -45,6 +46,7 @@ pub fn fill<R: Read>(reader: &mut R, space: &mut [u8]) -> io::Result<usize>
     ensures failed { OnErr result ((n : ℕ) × (n < length space.new) × Consumes (R.remaining reader.old) (R.remaining reader.new) (take n space.new)) }
 {
     let mut n: usize = 0;
+    // kept: each turn goes on by as many bytes as a read gave, which no range counts
     while n < space.len() {
         let more = read_behind(reader, space, n)?;
         if more == 0 {

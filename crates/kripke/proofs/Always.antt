@@ -1,4 +1,4 @@
--- Document 003's equations: an until with true on the left, "eventually", and the not of that of the not, "always".
+-- The equations of the operators: an until with true on the left, "eventually", and the not of that of the not, "always".
 use mathlib.Core.Path.{◌≡◌, refl, sym, ap, ◌∙◌}
 use Prim.Native.Nat.{ℕ, ◌≤◌, ◌<◌, min, max}
 use mathlib.Core.List.{List, map, map-map}

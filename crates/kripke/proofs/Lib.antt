@@ -1,4 +1,5 @@
 pub mod Begins
+pub mod OneAnswer
 pub mod Halving
 pub mod Refusals
 pub mod Read

@@ -2,24 +2,25 @@
 use mathlib.Core.Path.{◌≡◌, refl, sym, ap, ap₂, ◌∙◌, subst}
 use Prim.Native.Nat.{ℕ, ◌≤◌, ◌<◌}
 use mathlib.Core.List.{List}
-use mathlib.Core.Bool.{Bool, true, false, cond, not, ◌&&◌}
+use mathlib.Core.Bool.{Bool, true, false, cond, not}
 use mathlib.Core.Logic.{⊎_elim}
 use native.Mathlib.Omega.{arith}
 use lib.ListN.{length, take, get_or-eq_default}
 use lib.Dec.{leb}
-use borrow.Author.Tests.{le-leb}
+use borrow.Author.Tests.{le-leb, lt-leb}
 use Rattle.lists.specs.Entries.{at}
 use Rattle.lists.specs.Rows.{Filled, fill}
 use Rattle.lists.proofs.Numbers.{lt_or_le}
 use Rattle.lists.proofs.Rows.{filled_front, length_tab, tab_at, tab_same}
 use Rattle.lists.proofs.Tests.{and_fails, and_holds}
-use Rattle.values.specs.Answers.{RowStored, row_read}
+use Rattle.values.specs.Answers.{RowStored}
 use Rattle.values.specs.Limits.{most_states}
-use Rattle.values.specs.Rows.{bad_row, row_size, row_values, stored_row, value_at}
+use Rattle.values.specs.Rows.{bad_row, no_row, row_size, row_values, stored_row, value_at}
 use Rattle.values.specs.Values.{neg, top}
 use Rattle.values.specs.declared.rows.Row.{Row}
+use Rattle.values.specs.Inside.{RowTaken}
 use Rattle.values.proofs.OneAnswer.{equation_one}
-use Rattle.values.proofs.StoredRows.{row_read_lem, stored_size, stored_valid, stored_values, values_at}
+use Rattle.values.proofs.StoredRows.{row_not_read, stored_size, stored_valid, stored_values, values_at}
 use Rattle.kripke.specs.Answers.{OppositeStored, opposite_row}
 use Rattle.kripke.specs.Until.{opposite}
 
@@ -56,32 +57,32 @@ module _ (S : ℕ) (stored : List ℕ) where
   opposite_at s h = sym (values_at S (opposite_row S stored) s h) ∙ ap (λ (vs : List ℕ). at vs s) opposite_values ∙ opposite_here S (row_values S stored) s h ∙ ap neg (values_at S stored s h)
 
 -- what `opposite_row` was lent: no row, or a row that was read
-module _ (S : ℕ) (stored : List ℕ) (r : Row) (e : r ≡ row_read S stored) where
-  pub opposite_refused : r.valid ≡ false → (before : List ℕ) → OppositeStored S stored before before false
-  unfolding row_read
-  opposite_refused f before = record { is = go (leb S most_states) (not (bad_row S stored)) (ap (λ (x : Row). x.valid) (sym e) ∙ f); space = refl }
-    where
-      go : (a b : Bool) → (a && b) ≡ false → false ≡ (a && (b && leb (row_size S) (length before)))
-      go true b h = sym (and_fails b _ h)
-      go false b h = refl
+pub opposite_refused : (S : ℕ) (stored before : List ℕ) → no_row S stored ≡ true → OppositeStored S stored before before false
+opposite_refused S stored before e =
+    record {
+      is = ⊎_elim
+          (λ (many : most_states < S). sym (and_fails _ _ (lt-leb S most_states many)))
+          (λ (few : S ≤ most_states). sym (and_holds _ _ (le-leb S most_states few) ∙ and_fails _ _ (ap not (row_not_read S stored e few))))
+          (lt_or_le most_states S);
+      space = refl;
+    }
 
-  module _ (t : r.valid ≡ true) where
-    denied_is : (d denied : List ℕ) → Filled (λ (s : ℕ). neg (at r.values s)) S d denied → stored_row (take S denied) ≡ opposite_row S stored
-    unfolding opposite_row opposite
-    denied_is d denied f =
-        ap stored_row
-        (filled_front _ S d denied f
-        ∙ tab_same (λ (s : ℕ). neg (at r.values s)) (λ (s : ℕ). neg (at (row_values S stored) s)) S (λ s h. ap neg ((row_read_lem S stored r e t).here s h ∙ sym (values_at S stored s h))))
+module _ (S : ℕ) (stored : List ℕ) (r : Row) (k : RowTaken S stored r.values) where
+  denied_is : (d denied : List ℕ) → Filled (λ (s : ℕ). neg (at r.values s)) S d denied → stored_row (take S denied) ≡ opposite_row S stored
+  unfolding opposite_row opposite
+  denied_is d denied f =
+      ap stored_row
+      (filled_front _ S d denied f
+      ∙ tab_same (λ (s : ℕ). neg (at r.values s)) (λ (s : ℕ). neg (at (row_values S stored) s)) S (λ s h. ap neg (k.here s h ∙ sym (values_at S stored s h))))
 
-    pub opposite_stored : (d denied before after : List ℕ) (ok : Bool) → Filled (λ (s : ℕ). neg (at r.values s)) S d denied → RowStored (take S denied) before after ok → OppositeStored S stored before after ok
-    opposite_stored d denied before after ok f w =
-        let is : stored_row (take S denied) ≡ opposite_row S stored = denied_is d denied f in
-        let size : length (stored_row (take S denied)) ≡ row_size S = ap length is ∙ opposite_size S stored in
-        let k = row_read_lem S stored r e t in
-        record {
-          is = w.answer ∙ ap (λ (n : ℕ). leb n (length before)) size ∙ sym (and_holds (not (bad_row S stored)) (leb (row_size S) (length before)) (ap not k.fine)) ∙ sym (and_holds (leb S most_states) _ (le-leb S most_states k.few));
-          space = w.space ∙ ap₂ (λ (b : Bool) (xs : List ℕ). cond b (fill xs before) before) (sym w.answer) is;
-        }
+  pub opposite_stored : (d denied before after : List ℕ) (ok : Bool) → Filled (λ (s : ℕ). neg (at r.values s)) S d denied → RowStored (take S denied) before after ok → OppositeStored S stored before after ok
+  opposite_stored d denied before after ok f w =
+      let is : stored_row (take S denied) ≡ opposite_row S stored = denied_is d denied f in
+      let size : length (stored_row (take S denied)) ≡ row_size S = ap length is ∙ opposite_size S stored in
+      record {
+        is = w.answer ∙ ap (λ (n : ℕ). leb n (length before)) size ∙ sym (and_holds (not (bad_row S stored)) (leb (row_size S) (length before)) (ap not k.fine)) ∙ sym (and_holds (leb S most_states) _ (le-leb S most_states k.few));
+        space = w.space ∙ ap₂ (λ (b : Bool) (xs : List ℕ). cond b (fill xs before) before) (sym w.answer) is;
+      }
 
 -- any two answers that it may give coincide, and so does what it leaves
 pub opposite_one : (S : ℕ) (stored before after after' : List ℕ) (r r' : Bool) → OppositeStored S stored before after r → OppositeStored S stored before after' r' → (r ≡ r') × (after ≡ after')

@@ -2,12 +2,11 @@
 use mathlib.Core.Path.{◌≡◌, sym, ap, ap₂, ◌∙◌}
 use Prim.Native.Nat.{ℕ, ◌+◌, ◌-◌, ◌≤◌}
 use mathlib.Core.List.{List, [], ◌∷◌, ◌++◌}
-use mathlib.Core.Bool.{true, false, cond}
+use mathlib.Core.Bool.{true, false}
 use native.Mathlib.Omega.{arith}
 use lib.ListN.{replicate, length-replicate}
 use lib.Dec.{eqb}
-use borrow.Author.Tests.{ne_eqb}
-use Rattle.kripke.specs.Answers.{beginnings, transitions_read}
+use Rattle.kripke.specs.Answers.{beginnings}
 use Rattle.values.specs.Limits.{most_states}
 use Rattle.kripke.specs.Refusals.{table_refusal}
 use Rattle.kripke.specs.Inside.{early_causes, stuck_cause, Accepted, Ready}
@@ -20,21 +19,6 @@ use Rattle.kripke.proofs.Refusals.{accepted, listed, table_parts}
 use Rattle.lists.proofs.Causes.{none_refused, refused, skipped}
 use Rattle.lists.proofs.Rows.{drop_replicate, filled_at, filled_length}
 use Rattle.lists.proofs.Search.{any_same}
-use Rattle.kripke.specs.declared.graph.Transitions.{Transitions}
-
--- the answer from its number and its beginnings
-answer_of : (S : ℕ) (es : List ℕ) (r : Transitions) → table_refusal S es ≡ r.refusal → r.begins ≡ cond (eqb r.refusal 0) (beginnings S es) (replicate (most_states + 1) 0) → r ≡ transitions_read S es
-unfolding transitions_read
-answer_of S es r e b = (λ i. record { refusal = r.refusal; begins = b i }) ∙ ap answer (sym e)
-  where
-    answer : ℕ → Transitions
-    answer n = record { refusal = n; begins = cond (eqb n 0) (beginnings S es) (replicate (most_states + 1) 0) }
-
--- refused from the lists alone
-pub read_early : (S : ℕ) (es : List ℕ) (r : Transitions) → r.refusal ≡ refusal_of (early_causes S es) → (r.refusal ≡ 0 → ⊥) → r.begins ≡ replicate (most_states + 1) 0 → r ≡ transitions_read S es
-read_early S es r e h b =
-    let some : eqb r.refusal 0 ≡ false = ne_eqb r.refusal 0 h in
-    answer_of S es r (table_parts S es r.refusal e ∙ rw some) (b ∙ rw some)
 
 module _ (S : ℕ) (es : List ℕ) (fine : refusal_of (early_causes S es) ≡ 0) (begins : List ℕ) (filled : Filled (first_out es) (S + 1) (replicate (most_states + 1) 0) begins) where
   -- the test of the beginnings is the test of the successors
@@ -49,32 +33,30 @@ module _ (S : ℕ) (es : List ℕ) (fine : refusal_of (early_causes S es) ≡ 0)
   last_part = table_parts S es 0 (sym fine)
 
   -- refused for a state without a successor
-  pub read_stuck : (r : Transitions) → r.refusal ≡ 9 → r.begins ≡ replicate (most_states + 1) 0 → any_below (λ (s : ℕ). eqb (at begins s) (at begins (s + 1))) S ≡ true → r ≡ transitions_read S es
-  read_stuck r n b h = answer_of S es r (last_part ∙ refused 9 _ [] (same_test ∙ h) ∙ sym n) (b ∙ rw n)
+  pub read_stuck : any_below (λ (s : ℕ). eqb (at begins s) (at begins (s + 1))) S ≡ true → table_refusal S es ≡ 9
+  read_stuck h = last_part ∙ refused 9 _ [] (same_test ∙ h)
 
   -- not refused
-  pub read_fine : (r : Transitions) → r.refusal ≡ 0 → r.begins ≡ begins → any_below (λ (s : ℕ). eqb (at begins s) (at begins (s + 1))) S ≡ false → r ≡ transitions_read S es
+  pub read_fine : any_below (λ (s : ℕ). eqb (at begins s) (at begins (s + 1))) S ≡ false → (table_refusal S es ≡ 0) × (begins ≡ beginnings S es)
   unfolding beginnings
-  read_fine r n b h =
+  read_fine h =
       let rest : most_states + 1 - (S + 1) ≡ most_states - S = omega arith in
-      answer_of S es r (last_part ∙ skipped 9 _ [] (same_test ∙ h) ∙ none_refused ∙ sym n)
-      (b ∙ filled ∙ ap (λ (l : List ℕ). tab (first_out es) (S + 1) ++ l) (drop_replicate (S + 1) (most_states + 1) 0 ∙ ap (λ (k : ℕ). replicate k 0) rest) ∙ rw n)
+      (last_part ∙ skipped 9 _ [] (same_test ∙ h) ∙ none_refused, filled ∙ ap (λ (l : List ℕ). tab (first_out es) (S + 1) ++ l) (drop_replicate (S + 1) (most_states + 1) 0 ∙ ap (λ (k : ℕ). replicate k 0) rest))
 
--- what a caller has of an answer without a refusal: a graph, and where each state's transitions begin
-pub begun : (S : ℕ) (es : List ℕ) (r : Transitions) → r ≡ transitions_read S es → r.refusal ≡ 0 → Ready S es r.begins
-unfolding transitions_read beginnings
-begun S es r e z =
-    let fine : table_refusal S es ≡ 0 = ap (λ (x : Transitions). x.refusal) (sym e) ∙ z in
+-- what a caller has where nothing is refused: a graph, and where each state's transitions begin
+pub begun : (S : ℕ) (es begins : List ℕ) → table_refusal S es ≡ 0 → begins ≡ beginnings S es → Ready S es begins
+unfolding beginnings
+begun S es begins fine e =
     let a : Accepted S es = accepted S es fine in
     let few : S ≤ most_states = a.few in
     let rest : most_states + 1 - (S + 1) ≡ most_states - S = omega arith in
-    let filled : Filled (first_out es) (S + 1) (replicate (most_states + 1) 0) r.begins = ap (λ (x : Transitions). x.begins) e ∙ ap (λ (n : ℕ). cond (eqb n 0) (beginnings S es) (replicate (most_states + 1) 0)) fine ∙ ap (λ (l : List ℕ). tab (first_out es) (S + 1) ++ l) (sym (drop_replicate (S + 1) (most_states + 1) 0 ∙ ap (λ (k : ℕ). replicate k 0) rest)) in
-    let here : (s : ℕ) → s ≤ S → at r.begins s ≡ first_out es s = λ s h. filled_at (first_out es) (S + 1) (replicate (most_states + 1) 0) r.begins filled s (omega arith) in
+    let filled : Filled (first_out es) (S + 1) (replicate (most_states + 1) 0) begins = e ∙ ap (λ (l : List ℕ). tab (first_out es) (S + 1) ++ l) (sym (drop_replicate (S + 1) (most_states + 1) 0 ∙ ap (λ (k : ℕ). replicate k 0) rest)) in
+    let here : (s : ℕ) → s ≤ S → at begins s ≡ first_out es s = λ s h. filled_at (first_out es) (S + 1) (replicate (most_states + 1) 0) begins filled s (omega arith) in
     let asc : Ascending es = a.graph.ascending in
     record {
       accepted = a;
       begun = record {
-        room = omega (arith, filled_length (first_out es) (S + 1) (replicate (most_states + 1) 0) r.begins filled (rw length-replicate (omega arith)), length-replicate {A = ℕ} (most_states + 1) 0);
+        room = omega (arith, filled_length (first_out es) (S + 1) (replicate (most_states + 1) 0) begins filled (rw length-replicate (omega arith)), length-replicate {A = ℕ} (most_states + 1) 0);
         rises = λ s h. rw (here s (omega arith), here (s + 1) (omega arith)) (first_less es s asc (a.graph.out s h));
         within = λ s h. rw (here s h) (first_within es s);
         lists = λ s h. rw (here s (omega arith), here (s + 1) (omega arith)) (succs_ends es s asc);

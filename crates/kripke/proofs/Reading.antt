@@ -1,9 +1,9 @@
 -- What `read_tables` answers: the lowest of 1, 6 to 9 and 14, and otherwise what the tables hold; the causes of a question in their parts.
-use mathlib.Core.Path.{◌≡◌, refl, sym, ap, ◌∙◌}
+use mathlib.Core.Path.{◌≡◌, sym, ◌∙◌}
 use Prim.Native.Nat.{ℕ, ◌≤◌, ◌<◌}
 use mathlib.Core.List.{List, [], ◌∷◌, ◌++◌}
-use mathlib.Core.Bool.{Bool, true, false, cond, ◌&&◌, ◌||◌}
-use mathlib.Core.Logic.{⊎_elim}
+use mathlib.Core.Bool.{Bool, true, false, cond, ◌||◌}
+use mathlib.Core.Logic.{◌⊎◌, ⊎_elim}
 use native.Mathlib.Omega.{arith}
 use native.Mathlib.Nat.{eq-zero-or-pos}
 use lib.ListN.{length}
@@ -12,17 +12,18 @@ use borrow.Author.Tests.{ne_eqb}
 use Rattle.lists.specs.Causes.{Cause, Rising, cause, refusal_of}
 use Rattle.lists.proofs.Causes.{none_refused, passed, refusal_append, refused, skipped}
 use Rattle.lists.proofs.Tests.{or_left, or_neither, or_none, or_right}
-use Rattle.values.specs.Answers.{row_read}
-use Rattle.kripke.specs.Answers.{tables_read, transitions_read}
+use Rattle.kripke.specs.Answers.{TablesHold}
 use Rattle.kripke.specs.Refusals.{question_causes, table_causes, table_refusal}
-use Rattle.values.specs.Rows.{bad_row}
-use Rattle.kripke.specs.declared.graph.Transitions.{Transitions}
-use Rattle.values.specs.declared.rows.Row.{Row}
+use Rattle.values.specs.Rows.{bad_row, no_row}
+use Rattle.values.specs.Limits.{most_states}
+use Rattle.values.specs.Refusal.{number_of}
+use Rattle.values.specs.declared.refusal.Refusal.{Refusal}
+use Rattle.values.proofs.Refusing.{passed_early, refused_early}
 use Rattle.kripke.proofs.Read.{begun}
 use Rattle.kripke.proofs.Refusals.{accepted, table_rises}
-use Rattle.values.proofs.StoredRows.{row_fine, row_not_read, row_read_lem}
+use Rattle.values.proofs.StoredRows.{row_parts, row_some, row_not_read, row_read_lem}
 use Rattle.kripke.specs.declared.tables.Tables.{Tables}
-use Rattle.kripke.specs.Inside.{TablesRead, Taken}
+use Rattle.kripke.specs.Inside.{Taken}
 
 pub question_rises : (S : ℕ) (es left right : List ℕ) → Rising 0 (question_causes S es left right)
 question_rises S es left right = omega arith
@@ -31,39 +32,23 @@ question_rises S es left right = omega arith
 pub rows_long : {S : ℕ} {es left right : List ℕ} {t : Tables} → Taken S es left right t → (S ≤ length t.left) × (S ≤ length t.right)
 rows_long k = (omega (arith, k.left_row.few, k.left_row.long), omega (arith, k.right_row.few, k.right_row.long))
 
-module _ (S : ℕ) (es left right : List ℕ) (g : Transitions) (l r : Row) (eg : g ≡ transitions_read S es) (el : l ≡ row_read S left) (er : r ≡ row_read S right) where
-  graph_number : g.refusal ≡ refusal_of (table_causes S es)
-  unfolding transitions_read table_refusal
-  graph_number = ap (λ (x : Transitions). x.refusal) eg
+-- the parts of a question in turn: the tables, then the rows
+pub question_table : (S : ℕ) (es left right : List ℕ) (e : Refusal) → table_refusal S es ≡ number_of e → refusal_of (question_causes S es left right) ≡ number_of e
+unfolding table_refusal
+question_table S es left right e q = refused_early (table_causes S es) (cause 14 (bad_row S left || bad_row S right) ∷ []) e q
 
-  in_parts : refusal_of (question_causes S es left right) ≡ cond (eqb g.refusal 0) (refusal_of (cause 14 (bad_row S left || bad_row S right) ∷ [])) g.refusal
-  in_parts = refusal_append 0 (table_causes S es) (cause 14 (bad_row S left || bad_row S right) ∷ []) (table_rises S es) ∙ ap (λ (k : ℕ). cond (eqb k 0) (refusal_of (cause 14 (bad_row S left || bad_row S right) ∷ [])) k) (sym graph_number)
+pub question_rows : (S : ℕ) (es left right : List ℕ) → table_refusal S es ≡ 0 → (no_row S left ≡ true) ⊎ (no_row S right ≡ true) → refusal_of (question_causes S es left right) ≡ 14
+unfolding table_refusal
+question_rows S es left right z h =
+    let few : S ≤ most_states = (accepted S es z).few in
+    passed_early (table_causes S es) (cause 14 (bad_row S left || bad_row S right) ∷ []) (table_rises S es) z
+    ∙ refused 14 _ [] (⊎_elim (λ l. or_left _ (bad_row S right) (row_not_read S left l few)) (λ r. or_right (bad_row S left) _ (row_not_read S right r few)) h)
 
-  -- 14 in a graph: a row is none
-  rows_number : g.refusal ≡ 0 → (a b : Bool) → l.valid ≡ a → r.valid ≡ b → refusal_of (cause 14 (bad_row S left || bad_row S right) ∷ []) ≡ cond (a && b) 0 14
-  rows_number z true true p q = skipped 14 _ [] (or_none _ _ (row_read_lem S left l el p).fine (row_read_lem S right r er q).fine) ∙ none_refused
-  rows_number z true false p q = refused 14 _ [] (or_right (bad_row S left) _ (row_not_read S right r er q (begun S es g eg z).accepted.few))
-  rows_number z false b p q = refused 14 _ [] (or_left _ (bad_row S right) (row_not_read S left l el p (begun S es g eg z).accepted.few))
-
-  number_of_lem : (x y : Bool) → l.valid ≡ x → r.valid ≡ y → cond (eqb g.refusal 0) (cond (x && y) 0 14) g.refusal ≡ refusal_of (question_causes S es left right)
-  number_of_lem x y ex ey = ⊎_elim graph_fine graph_refused (eq-zero-or-pos g.refusal)
-    where
-      graph_fine : g.refusal ≡ 0 → cond (eqb g.refusal 0) (cond (x && y) 0 14) g.refusal ≡ refusal_of (question_causes S es left right)
-      graph_fine z = rw z (sym (in_parts ∙ rw z (rows_number z x y ex ey)))
-
-      graph_refused : 0 < g.refusal → cond (eqb g.refusal 0) (cond (x && y) 0 14) g.refusal ≡ refusal_of (question_causes S es left right)
-      graph_refused p = let some : eqb g.refusal 0 ≡ false = ne_eqb g.refusal 0 (λ z. omega arith) in rw some (sym (in_parts ∙ rw some))
-
-  pub tables_read_lem : (t : Tables) → t.refusal ≡ cond (eqb g.refusal 0) (cond (l.valid && r.valid) 0 14) g.refusal → t.begins ≡ g.begins → t.left ≡ l.values → t.right ≡ r.values → t ≡ tables_read S es left right
-  unfolding tables_read
-  tables_read_lem t n b v w =
-      let num : t.refusal ≡ refusal_of (question_causes S es left right) = n ∙ number_of_lem l.valid r.valid refl refl in
-      λ i. record {
-        refusal = num i;
-        begins = (b ∙ ap (λ (x : Transitions). x.begins) eg) i;
-        left = (v ∙ ap (λ (x : Row). x.values) el) i;
-        right = (w ∙ ap (λ (x : Row). x.values) er) i;
-      }
+pub question_read : (S : ℕ) (es left right : List ℕ) → table_refusal S es ≡ 0 → no_row S left ≡ false → no_row S right ≡ false → refusal_of (question_causes S es left right) ≡ 0
+unfolding table_refusal
+question_read S es left right z l r =
+    passed_early (table_causes S es) (cause 14 (bad_row S left || bad_row S right) ∷ []) (table_rises S es) z
+    ∙ skipped 14 _ [] (or_none _ _ (row_parts S left l).1 (row_parts S right r).1) ∙ none_refused
 
 -- a question that is not refused: its tables are not, and its rows are rows
 module _ (S : ℕ) (es left right : List ℕ) (none : refusal_of (question_causes S es left right) ≡ 0) where
@@ -86,38 +71,28 @@ pub question_fine : (S : ℕ) (es left right : List ℕ) → table_refusal S es 
 unfolding table_refusal
 question_fine S es left right z l r = refusal_append 0 (table_causes S es) (cause 14 (bad_row S left || bad_row S right) ∷ []) (table_rises S es) ∙ rw z (skipped 14 _ [] (or_none _ _ l r) ∙ none_refused)
 
--- what a caller has of the answer
-pub tables_taken : {S : ℕ} {es left right : List ℕ} {t : Tables} → t ≡ tables_read S es left right → TablesRead S es left right t
-unfolding tables_read transitions_read
-tables_taken {S} {es} {left} {right} {t} e = record { number = number; taken = taken }
-  where
-    number : t.refusal ≡ refusal_of (question_causes S es left right)
-    number = ap (λ (x : Tables). x.refusal) e
-
-    taken : t.refusal ≡ 0 → Taken S es left right t
-    taken z =
-        let none : refusal_of (question_causes S es left right) ≡ 0 = sym number ∙ z in
-        let table = table_fine S es left right none in
-        let few = (accepted S es table).few in
-        record {
-          ready = rw (ap (λ (x : Tables). x.begins) e) (begun S es (transitions_read S es) refl table);
-          left_row = rw (ap (λ (x : Tables). x.left) e) (row_fine S left few (rows_fine S es left right none).0);
-          right_row = rw (ap (λ (x : Tables). x.right) e) (row_fine S right few (rows_fine S es left right none).1);
-        }
+-- what a caller has where nothing is refused
+pub tables_taken : {S : ℕ} {es left right : List ℕ} {t : Tables} → refusal_of (question_causes S es left right) ≡ 0 → TablesHold S es left right t → Taken S es left right t
+tables_taken {S} {es} {left} {right} {t} none h =
+    let table = table_fine S es left right none in
+    let few = (accepted S es table).few in
+    let rows = rows_fine S es left right none in
+    record {
+      ready = begun S es t.begins table h.graph;
+      left_row = row_read_lem S left t.left (row_some S left few rows.0) h.left_row;
+      right_row = row_read_lem S right t.right (row_some S right few rows.1) h.right_row;
+    }
 
 -- the causes with 15 behind them: refused before it, with it, or not at all
-module _ (S : ℕ) (es left right : List ℕ) (b : Bool) (m : ℕ) (e : m ≡ refusal_of (question_causes S es left right)) where
+module _ (S : ℕ) (es left right : List ℕ) (b : Bool) where
   abbrev with_15 : List Cause
   with_15 = question_causes S es left right ++ (cause 15 b ∷ [])
 
-  one_more : refusal_of with_15 ≡ cond (eqb m 0) (refusal_of (cause 15 b ∷ [])) m
-  one_more = refusal_append 0 (question_causes S es left right) (cause 15 b ∷ []) (question_rises S es left right) ∙ ap (λ (k : ℕ). cond (eqb k 0) (refusal_of (cause 15 b ∷ [])) k) (sym e)
+  pub before_15 : (e : Refusal) → refusal_of (question_causes S es left right) ≡ number_of e → refusal_of with_15 ≡ number_of e
+  before_15 e q = refused_early (question_causes S es left right) (cause 15 b ∷ []) e q
 
-  pub before_15 : (m ≡ 0 → ⊥) → m ≡ refusal_of with_15
-  before_15 h = sym (one_more ∙ rw (ne_eqb m 0 h))
+  pub given_15 : refusal_of (question_causes S es left right) ≡ 0 → b ≡ true → refusal_of with_15 ≡ 15
+  given_15 z t = passed_early (question_causes S es left right) (cause 15 b ∷ []) (question_rises S es left right) z ∙ refused 15 b [] t
 
-  pub given_15 : m ≡ 0 → b ≡ true → 15 ≡ refusal_of with_15
-  given_15 z t = sym (one_more ∙ rw z (refused 15 b [] t))
-
-  pub not_15 : m ≡ 0 → b ≡ false → refusal_of with_15 ≡ 0
-  not_15 z f = one_more ∙ rw z (skipped 15 b [] f ∙ none_refused)
+  pub not_15 : refusal_of (question_causes S es left right) ≡ 0 → b ≡ false → refusal_of with_15 ≡ 0
+  not_15 z f = passed_early (question_causes S es left right) (cause 15 b ∷ []) (question_rises S es left right) z ∙ skipped 15 b [] f ∙ none_refused

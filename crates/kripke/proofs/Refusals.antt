@@ -1,55 +1,28 @@
 -- The refusals of the tables: the number is the lowest that applies, and what tables have that are not refused.
 use mathlib.Core.Path.{◌≡◌, refl, sym, ap, ◌∙◌, subst}
 use Prim.Native.Nat.{ℕ, suc, ◌-◌, ◌%◌, ◌≤◌, ◌<◌}
-use mathlib.Core.List.{List, [], ◌∷◌}
-use mathlib.Core.Bool.{Bool, true, false, cond, not, ◌&&◌, ◌||◌}
+use mathlib.Core.List.{List, [], ◌∷◌, ◌++◌}
+use mathlib.Core.Bool.{true, false, cond, not, ◌&&◌, ◌||◌}
 use mathlib.Core.Logic.{◌⊎◌, inl, inr}
 use native.Mathlib.Omega.{arith}
 use native.Mathlib.Nat.{eq-zero-or-pos}
 use lib.ListN.{length}
 use lib.Dec.{eqb, ltb}
-use borrow.Author.Tests.{lt-ltb, le-ltb, eq-eqb, ne_eqb, ltb-false, leb-false, eqb-false, not-false}
+use borrow.Author.Tests.{lt-ltb, ne_eqb, ltb-false, leb-false, eqb-false, not-false}
 use Rattle.values.specs.Limits.{most_states, most_transition_numbers, most_transitions}
-use Rattle.kripke.specs.Inside.{Accepted, early_causes, stuck_cause}
-use Rattle.kripke.specs.Refusals.{bad_count, bad_list, falls, leaves, table_causes, table_refusal, transition_causes}
+use Rattle.kripke.specs.Inside.{Accepted, early_causes, list_causes, scan_causes, stuck_cause}
+use Rattle.kripke.specs.Refusals.{bad_count, bad_list, count_causes, falls, leaves, table_causes, table_refusal, transition_causes}
 use Rattle.kripke.specs.Transitions.{Ascending, comes_before, count, succs}
 use Rattle.lists.specs.Causes.{Rising, refusal_of}
-use Rattle.lists.specs.Entries.{All, any_below, at, is_nil}
+use Rattle.lists.specs.Entries.{All, any_below, is_nil}
+use Rattle.values.specs.Refusal.{number_of}
+use Rattle.values.specs.declared.refusal.Refusal.{Refusal}
+use Rattle.values.proofs.Refusing.{passed_early, refused_early}
 use Rattle.kripke.proofs.Begins.{from_tail, to_tail}
-use Rattle.lists.proofs.Causes.{passed, refusal_append, refused, skipped}
+use Rattle.lists.proofs.Causes.{passed, refusal_append}
 use Rattle.lists.proofs.Entries.{some_of}
 use Rattle.lists.proofs.Search.{any_none}
-use Rattle.lists.proofs.Tests.{and_holds, or_left, or_neither, or_none, or_right}
-
--- the count of states: none, too many, or in range
-pub count_none : (S : ℕ) → S ≡ 0 → bad_count S ≡ true
-unfolding bad_count
-count_none S e = or_left _ _ (eq-eqb S 0 e)
-
-pub count_many : (S : ℕ) → most_states < S → bad_count S ≡ true
-unfolding bad_count
-count_many S l = or_right (eqb S 0) _ (lt-ltb most_states S l)
-
-pub count_fine : (S : ℕ) → (S ≡ 0 → ⊥) → S ≤ most_states → bad_count S ≡ false
-unfolding bad_count
-count_fine S some few = or_none _ _ (ne_eqb S 0 some) (le-ltb most_states S few)
-
--- the list of transitions: empty, too long, odd, or neither
-pub list_empty : (es : List ℕ) → length es ≡ 0 → bad_list es ≡ true
-unfolding bad_list
-list_empty es e = or_left _ _ (eq-eqb (length es) 0 e)
-
-pub list_long : (es : List ℕ) → most_transition_numbers < length es → bad_list es ≡ true
-unfolding bad_list
-list_long es l = or_right (eqb (length es) 0) _ (or_left _ (eqb (length es % 2) 1) (lt-ltb most_transition_numbers (length es) l))
-
-pub list_odd : (es : List ℕ) → length es % 2 ≡ 1 → bad_list es ≡ true
-unfolding bad_list
-list_odd es e = or_right (eqb (length es) 0) _ (or_right (ltb most_transition_numbers (length es)) _ (eq-eqb (length es % 2) 1 e))
-
-pub list_fine : (es : List ℕ) → (length es ≡ 0 → ⊥) → length es ≤ most_transition_numbers → (length es % 2 ≡ 1 → ⊥) → bad_list es ≡ false
-unfolding bad_list
-list_fine es some few even = or_none _ _ (ne_eqb (length es) 0 some) (or_none _ _ (le-ltb most_transition_numbers (length es) few) (ne_eqb (length es % 2) 1 even))
+use Rattle.lists.proofs.Tests.{and_holds, or_neither}
 
 count_range : (S : ℕ) → bad_count S ≡ false → (0 < S) × (S ≤ most_states)
 unfolding bad_count
@@ -120,18 +93,28 @@ accepted S es e = go (refusal_of (early_causes S es)) refl (eq-zero-or-pos (refu
         let given : table_refusal S es ≡ n = table_parts S es n q ∙ rw (ne_eqb n 0 (λ z. omega arith)) in
         absurd (omega arith)
 
--- the tables' number is 1 exactly if the state count is out of range
-pub table_one : (S : ℕ) (es : List ℕ) → bad_count S ≡ true → table_refusal S es ≡ 1
+-- refused from the lists alone
+pub table_early : (S : ℕ) (es : List ℕ) (e : Refusal) → refusal_of (early_causes S es) ≡ number_of e → table_refusal S es ≡ number_of e
 unfolding table_refusal
-table_one S es e = refused 1 (bad_count S) (transition_causes S es) e
+table_early S es e q = refused_early (early_causes S es) (stuck_cause S es ∷ []) e q
 
-pub table_rest : (S : ℕ) (es : List ℕ) → bad_count S ≡ false → table_refusal S es ≡ refusal_of (transition_causes S es)
+pub early_count : (S : ℕ) (es : List ℕ) (e : Refusal) → refusal_of (count_causes S) ≡ number_of e → refusal_of (early_causes S es) ≡ number_of e
+early_count S es e q = refused_early (count_causes S) (list_causes es ++ scan_causes S es) e q
+
+early_after_count : (S : ℕ) (es : List ℕ) → refusal_of (count_causes S) ≡ 0 → refusal_of (early_causes S es) ≡ refusal_of (list_causes es ++ scan_causes S es)
+early_after_count S es z = passed_early (count_causes S) (list_causes es ++ scan_causes S es) (omega arith) z
+
+pub early_list : (S : ℕ) (es : List ℕ) (e : Refusal) → refusal_of (count_causes S) ≡ 0 → refusal_of (list_causes es) ≡ number_of e → refusal_of (early_causes S es) ≡ number_of e
+early_list S es e z q = early_after_count S es z ∙ refused_early (list_causes es) (scan_causes S es) e q
+
+pub early_each : (S : ℕ) (es : List ℕ) → refusal_of (count_causes S) ≡ 0 → refusal_of (list_causes es) ≡ 0 → refusal_of (early_causes S es) ≡ refusal_of (scan_causes S es)
+early_each S es z y = early_after_count S es z ∙ passed_early (list_causes es) (scan_causes S es) (omega arith) y
+
+-- the count that is not refused
+pub count_few : (S : ℕ) → refusal_of (count_causes S) ≡ 0 → S ≤ most_states
+count_few S z = (count_range S (passed 0 (bad_count S) [] z).0).1
+
+-- where the count is refused the tables are, and where it is not the transitions decide
+pub table_rest : (S : ℕ) (es : List ℕ) → refusal_of (count_causes S) ≡ 0 → table_refusal S es ≡ refusal_of (transition_causes S es)
 unfolding table_refusal
-table_rest S es e = skipped 1 (bad_count S) (transition_causes S es) e
-
-pub table_few : (S : ℕ) (es : List ℕ) → (table_refusal S es ≡ 1 → ⊥) → S ≤ most_states
-table_few S es h = go (bad_count S) refl
-  where
-    go : (b : Bool) → bad_count S ≡ b → S ≤ most_states
-    go true e = absurd (h (table_one S es e))
-    go false e = (count_range S e).1
+table_rest S es z = passed_early (count_causes S) (transition_causes S es) (omega arith) z

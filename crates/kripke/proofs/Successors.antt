@@ -1,17 +1,15 @@
 -- `Edge` and `succs` say the same, `Edge` and the places of the list do, and the successors of a state are states.
-use mathlib.Core.Path.{◌≡◌, refl, sym, ◌∙◌}
-use Prim.Native.Nat.{ℕ, zero, suc, ◌<◌}
+use mathlib.Core.Path.{◌≡◌, refl, sym}
+use Prim.Native.Nat.{ℕ, ◌<◌}
 use mathlib.Core.List.Memᴰ
 use mathlib.Core.List.{List, [], ◌∷◌, Memᴰ}
 use mathlib.Core.Bool.{Bool, true, false, cond}
 use mathlib.Core.Logic.{inl, inr, ⊎_elim}
-use native.Mathlib.Omega.{arith}
 use lib.Dec.{eqb}
 use borrow.Author.Tests.{eq-eqb, eqb-true}
-use Rattle.kripke.specs.Transitions.{Edge, Graph, count, from, succs, to}
+use Rattle.kripke.specs.Transitions.{Edge, Graph, succs}
 use Rattle.lists.specs.Entries.{All}
 use Rattle.lists.proofs.Entries.{all_member}
-use Rattle.kripke.proofs.Begins.{from_tail, to_tail}
 
 pub succ_edge : (es : List ℕ) (s t : ℕ) → Memᴰ t (succs es s) → Edge es s t
 unfolding succs
@@ -33,18 +31,6 @@ edge_succ (f ∷ u ∷ es) s t (inr r) = go (eqb f s) (edge_succ es s t r)
     go : (b : Bool) → Memᴰ t (succs es s) → Memᴰ t (cond b (u ∷ succs es s) (succs es s))
     go true m = Memᴰ.tail m
     go false m = m
-
-pub place_edge : (es : List ℕ) (k : ℕ) → k < count es → Edge es (from es k) (to es k)
-place_edge [] k h = absurd (omega arith)
-place_edge (f ∷ []) k h = absurd (omega arith)
-place_edge (f ∷ t ∷ es) zero h = inl (refl, refl)
-place_edge (f ∷ t ∷ es) (suc k) h = inr (rw (from_tail f t es k, to_tail f t es k) (place_edge es k (omega arith)))
-
-pub edge_place : (es : List ℕ) (s t : ℕ) → Edge es s t → (k : ℕ) × (k < count es) × (from es k ≡ s) × (to es k ≡ t)
-edge_place [] s t e = absurd e
-edge_place (f ∷ []) s t e = absurd e
-edge_place (f ∷ u ∷ es) s t (inl p) = (0, omega arith, p.0, p.1)
-edge_place (f ∷ u ∷ es) s t (inr r) = let i = edge_place es s t r in (suc i.0, omega (arith, i.1), from_tail f u es i.0 ∙ i.2, to_tail f u es i.0 ∙ i.3)
 
 pub succs_all : (P : ℕ → Type 0) (es : List ℕ) (s : ℕ) → All P es → All P (succs es s)
 unfolding succs

@@ -7,9 +7,8 @@ use mathlib.Core.Logic.{⊎_elim}
 use native.Mathlib.Omega.{arith}
 use lib.ListN.{length}
 use Rattle.kripke.specs.Transitions.{Edge, Graph, succs}
-use Rattle.kripke.specs.Until.{next}
 use Rattle.kripke.specs.Walks.{Walk, walks}
-use Rattle.lists.specs.Entries.{Some, at}
+use Rattle.lists.specs.Entries.{Some}
 use Rattle.lists.specs.Rows.{each}
 use Rattle.kripke.proofs.Successors.{edge_succ, succ_edge, succs_states}
 use Rattle.lists.proofs.Choosing.{best_each}

@@ -1,28 +1,27 @@
 -- What the calls of this crate answer, for every input.
-use Rattle.std.specs.Prelude.{◌≡◌, ℕ, ◌+◌, ◌-◌, List, ◌++◌, Bool, cond, not, ◌&&◌, length, replicate, eqb, leb}
-use Rattle.lists.specs.Causes.{refusal_of}
+use Rattle.std.specs.Prelude.{◌≡◌, ℕ, ◌+◌, ◌-◌, List, [], ◌∷◌, ◌++◌, Bool, cond, not, ◌&&◌, length, replicate, leb}
 use Rattle.lists.specs.Rows.{tab, fill}
 use Rattle.values.specs.Limits.{most_states}
 use Rattle.values.specs.Rows.{bad_row, row_size, row_values, stored_row}
-use Rattle.values.specs.Answers.{row_read}
-use Rattle.kripke.specs.declared.graph.Transitions.{Transitions}
 use Rattle.kripke.specs.declared.tables.Tables.{Tables}
 use Rattle.kripke.specs.Transitions.{first_out}
 use Rattle.kripke.specs.Until.{opposite}
-use Rattle.kripke.specs.Refusals.{question_causes, table_refusal}
 
 -- for each state where its transitions begin, then how many there are, then zeros
 unfoldable pub beginnings : ℕ → List ℕ → List ℕ
 beginnings S es = tab (first_out es) (S + 1) ++ replicate (most_states - S) 0
 
--- `read_transitions`: the lowest number that applies, or 0 and the beginnings; after a refusal zeros
-unfoldable pub transitions_read : ℕ → List ℕ → Transitions
-transitions_read S es = record { refusal = table_refusal S es; begins = cond (eqb (table_refusal S es) 0) (beginnings S es) (replicate (most_states + 1) 0) }
+-- `successors`: where the transitions of a part of the list lead, one after the other
+abbrev pub targets : List ℕ → List ℕ
+targets [] = []
+targets (f ∷ []) = []
+targets (f ∷ t ∷ es) = t ∷ targets es
 
--- `read_tables`: the lowest number that applies to the tables of a question, or 0; the beginnings, and the values of both rows
-unfoldable pub tables_read : ℕ → List ℕ → List ℕ → List ℕ → Tables
-tables_read S es left right =
-    record { refusal = refusal_of (question_causes S es left right); begins = (transitions_read S es).begins; left = (row_read S left).values; right = (row_read S right).values }
+-- `read_tables`: the beginnings, and the values of both rows
+pub record TablesHold (S : ℕ) (es left right : List ℕ) (t : Tables) : Type 0 where
+  pub graph : t.begins ≡ beginnings S es
+  pub left_row : t.left ≡ row_values S left ++ replicate (most_states - S) 0
+  pub right_row : t.right ≡ row_values S right ++ replicate (most_states - S) 0
 
 -- the row "not" of a row, as it is stored
 unfoldable pub opposite_row : ℕ → List ℕ → List ℕ

@@ -1,11 +1,13 @@
 -- What tables have that are not refused, for the private functions of this crate and of those above; no promise of a public call cites these.
+use denote.Struct.Props.{props}
+use Rattle.std.specs.Coded.{×_prop, Unit-prop, le_prop}
 use Rattle.std.specs.Prelude.{◌≡◌, ℕ, ◌+◌, ◌-◌, ◌<◌, ◌≤◌, List, [], ◌∷◌, length}
-use Rattle.lists.specs.Causes.{Cause, cause, refusal_of}
-use Rattle.lists.specs.Entries.{any_below, at, is_nil}
+use Rattle.lists.specs.Causes.{Cause, cause}
+use Rattle.lists.specs.Entries.{All, Some, any_below, at, is_nil}
 use Rattle.values.specs.Limits.{most_states, most_transitions}
 use Rattle.values.specs.Inside.{RowTaken}
 use Rattle.kripke.specs.declared.tables.Tables.{Tables}
-use Rattle.kripke.specs.Refusals.{bad_count, bad_list, falls, leaves, question_causes}
+use Rattle.kripke.specs.Refusals.{bad_count, bad_list, falls, leaves}
 use Rattle.kripke.specs.Transitions.{Graph, count, ends, succs}
 
 -- a graph within the limits
@@ -27,18 +29,28 @@ pub record Ready (S : ℕ) (es begins : List ℕ) : Type 0 where
   pub accepted : Accepted S es
   pub begun : Begun S es begins
 
+-- there is one proof of it at most, as a ghost field asks
+ends_prop : (S : ℕ) (es : List ℕ) → IsProp (All (λ (t : ℕ). t < S) es)
+ends_prop S [] = Unit-prop
+ends_prop S (x ∷ xs) = ×_prop le_prop (ends_prop S xs)
+
+some_prop : (xs : List ℕ) → IsProp (Some xs)
+some_prop [] = λ x y. absurd x
+some_prop (x ∷ xs) = Unit-prop
+
+pub Ready-prop : (S : ℕ) (es begins : List ℕ) → IsProp (Ready S es begins)
+Ready-prop S es begins = Prim.hlevel (ends_prop, some_prop, props)
+
 -- what is read of a question's tables that are not refused
 pub record Taken (S : ℕ) (es left right : List ℕ) (t : Tables) : Type 0 where
   pub ready : Ready S es t.begins
   pub left_row : RowTaken S left t.left
   pub right_row : RowTaken S right t.right
 
--- what a caller has of `read_tables`
-pub record TablesRead (S : ℕ) (es left right : List ℕ) (t : Tables) : Type 0 where
-  pub number : t.refusal ≡ refusal_of (question_causes S es left right)
-  pub taken : t.refusal ≡ 0 → Taken S es left right t
+-- the causes in the parts in which they are tried: 1; 6; 7 and 8; and 9
+abbrev pub list_causes : List ℕ → List Cause
+list_causes es = cause 6 (bad_list es) ∷ []
 
--- the causes in the parts in which they are tried: 7 and 8; 1, 6 and these; and 9
 abbrev pub scan_causes : ℕ → List ℕ → List Cause
 scan_causes S es = cause 7 (any_below (leaves S es) (count es)) ∷ cause 8 (any_below (falls es) (count es)) ∷ []
 

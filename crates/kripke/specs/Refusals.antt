@@ -22,6 +22,10 @@ leaves S es k = leb S (from es k) || leb S (to es k)
 abbrev pub falls : List ℕ → ℕ → Bool
 falls es k = ltb 0 k && not (comes_before es (k - 1) k)
 
+-- the cause of the state count
+abbrev pub count_causes : ℕ → List Cause
+count_causes S = cause 1 (bad_count S) ∷ []
+
 -- the causes of the transitions, in the order of their numbers
 abbrev pub transition_causes : ℕ → List ℕ → List Cause
 transition_causes S es =

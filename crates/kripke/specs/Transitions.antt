@@ -1,5 +1,5 @@
 -- Transitions as a flat list from, to, from, to, ..; a state's successors; and what makes the list a graph of S states.
-use Rattle.std.specs.Prelude.{◌≡◌, ℕ, zero, suc, ◌+◌, ◌*◌, ◌-◌, ◌/◌, ◌<◌, List, [], ◌∷◌, Bool, true, cond, ◌&&◌, ◌||◌, ◌⊎◌, length, eqb, ltb}
+use Rattle.std.specs.Prelude.{◌≡◌, ℕ, zero, suc, ◌+◌, ◌*◌, ◌/◌, ◌<◌, List, [], ◌∷◌, Bool, true, cond, ◌&&◌, ◌||◌, ◌⊎◌, length, eqb, ltb}
 use Rattle.lists.specs.Entries.{at, Some, All}
 
 -- how many transitions there are

@@ -1,35 +1,51 @@
 // States and transitions: the refusals 1 and 6 to 9, and where each state's transitions begin.
-ghost use Rattle.std.specs.Prelude.{◌≡◌, ℕ, ◌+◌, ◌<◌, ◌≤◌, length, eqb};
+ghost use Rattle.std.specs.Prelude.{◌≡◌, ℕ, ◌+◌, ◌<◌, ◌≤◌, ◌||◌, length, eqb, leb};
 ghost use Rattle.lists.specs.Entries.{at, any_below};
 ghost use Rattle.lists.specs.Rows.{Filled};
 ghost use Rattle.lists.specs.Causes.{refusal_of};
 ghost use Rattle.values.specs.Limits.{most_transitions};
-ghost use Rattle.kripke.specs.Transitions.{count, Ascending, first_out};
+ghost use Rattle.kripke.specs.Transitions.{count, from, to, Ascending, first_out};
 ghost use Rattle.kripke.specs.Refusals as refusals;
 ghost use Rattle.kripke.specs.Inside as inside;
-ghost use Rattle.kripke.specs.Answers.{transitions_read};
+ghost use Rattle.kripke.specs.Refusals.{table_refusal};
+ghost use Rattle.kripke.specs.Answers.{beginnings};
+ghost use Rattle.values.specs.Refusal.{Answers, Refuses};
 
 use values::limits::{MOST_STATES, MOST_TRANSITION_NUMBERS};
+use values::refusal::Refusal;
 
-// The number of the refusal, or 0 and for each state where its transitions begin, and behind the last
-// state how many there are. The rest is 0, and after a refusal all of it is.
+// For each state where its transitions begin, and behind the last state how many there are. The rest is 0.
+// kept: an array for the most states, since memory is fixed, a rule of the project.
 #[derive(Clone, Copy)]
 pub struct Transitions {
-    pub refusal: u8,
     pub begins: [u16; MOST_STATES + 1],
 }
 
-// Whether transition k has an end that is no state.
-fn leaves(states: usize, transitions: &[u16], k: usize) -> bool
-    requires { k < count transitions.now }
-    ensures { result ≡ refusals.leaves states transitions.now k }
-{
-    let from = transitions[2 * k] as usize;
-    let to = transitions[2 * k + 1] as usize;
-    if states <= from {
-        return true;
+// One of the list's transitions; those from an earlier state come first, and then those to an earlier one.
+#[derive(Clone, Copy, PartialEq, Eq, PartialOrd, Ord)]
+struct Transition {
+    from: u16,
+    to: u16,
+}
+
+impl Transition {
+    fn at(transitions: &[u16], k: usize) -> Transition
+        requires { k < count transitions.now }
+        ensures from { result.from ≡ from transitions.now k }
+        ensures to { result.to ≡ to transitions.now k }
+    {
+        Transition {
+            from: transitions[2 * k],
+            to: transitions[2 * k + 1],
+        }
     }
-    states <= to
+
+    // Whether an end is no state.
+    fn leaves(self, states: usize) -> bool
+        ensures { result ≡ (leb states self.from || leb states self.to) }
+    {
+        states <= self.from as usize || states <= self.to as usize
+    }
 }
 
 // Whether transition k stands behind one that does not come before it.
@@ -37,73 +53,65 @@ fn falls(transitions: &[u16], k: usize) -> bool
     requires { k < count transitions.now }
     ensures { result ≡ refusals.falls transitions.now k }
 {
-    if k == 0 {
-        return false;
-    }
-    let j = k - 1;
-    let from = transitions[2 * j];
-    let next_from = transitions[2 * k];
-    let to = transitions[2 * j + 1];
-    let next_to = transitions[2 * k + 1];
-    if from < next_from {
-        return false;
-    }
-    if from == next_from {
-        if to < next_to {
-            return false;
-        }
-        return true;
-    }
-    true
+    0 < k && Transition::at(transitions, k) <= Transition::at(transitions, k - 1)
 }
 
-// 7 or 8, or 0: one pass over the transitions.
-fn scan_fault(states: usize, transitions: &[u16]) -> u8
-    ensures { result ≡ refusal_of (inside.scan_causes states transitions.now) }
+// One pass over the transitions: each end is a state, and they ascend.
+fn check_each(states: usize, transitions: &[u16]) -> Result<(), Refusal>
+    ensures { Refuses (refusal_of (inside.scan_causes states transitions.now)) result }
 {
-    let n = transitions.len() / 2;
     let mut fell = false;
-    let mut k: usize = 0;
-    while k < n {
-        if leaves(states, transitions, k) {
-            return 7;
+    for k in 0..transitions.len() / 2 {
+        if Transition::at(transitions, k).leaves(states) {
+            return Err(Refusal::TransitionEnd);
         }
         if falls(transitions, k) {
             fell = true;
         }
-        k += 1;
     }
     if fell {
-        return 8;
+        return Err(Refusal::TransitionOrder);
     }
-    0
+    Ok(())
 }
 
-// 1, 6, 7 or 8, or 0.
-fn early_fault(states: usize, transitions: &[u16]) -> u8
-    ensures { result ≡ refusal_of (inside.early_causes states transitions.now) }
+#[tactic(auto, unfolding(crate::specs::Refusals::bad_count))]
+fn bad_count(states: usize) -> bool
+    ensures { result ≡ refusals.bad_count states }
 {
-    if states == 0 {
-        return 1;
-    }
-    if MOST_STATES < states {
-        return 1;
-    }
+    states == 0 || MOST_STATES < states
+}
+
+#[tactic(auto, unfolding(crate::specs::Refusals::bad_list))]
+fn bad_list(transitions: &[u16]) -> bool
+    ensures { result ≡ refusals.bad_list transitions.now }
+{
     let n = transitions.len();
-    if n == 0 {
-        return 6;
+    n == 0 || MOST_TRANSITION_NUMBERS < n || n % 2 == 1
+}
+
+// Whether there may be so many states.
+pub fn check_count(states: usize) -> Result<(), Refusal>
+    ensures { Refuses (refusal_of (refusals.count_causes states)) result }
+{
+    if bad_count(states) {
+        return Err(Refusal::StateCount);
     }
-    if MOST_TRANSITION_NUMBERS < n {
-        return 6;
+    Ok(())
+}
+
+// Whether a list may be that of the transitions, by its length.
+fn check_list(transitions: &[u16]) -> Result<(), Refusal>
+    ensures { Refuses (refusal_of (inside.list_causes transitions.now)) result }
+{
+    if bad_list(transitions) {
+        return Err(Refusal::TransitionList);
     }
-    let odd = n % 2;
-    if odd == 1 {
-        return 6;
-    }
-    scan_fault(states, transitions)
+    Ok(())
 }
 
 // Where the transitions out of s begin.
+// kept: halved by hand: of pairs cut by as_chunks partition_point would do, but the edits of four wrong halvings would have no place.
 fn first_out(transitions: &[u16], s: usize) -> usize
     requires { Ascending transitions.now }
     ensures { result ≡ first_out transitions.now s }
@@ -128,47 +136,36 @@ fn fill_begins(states: usize, transitions: &[u16], begins: &mut [u16])
     requires { (states < length begins.old) × (count transitions.now ≤ most_transitions) × Ascending transitions.now }
     ensures { Filled (first_out transitions.now) (states + 1) begins.old begins.new }
 {
-    let mut s: usize = 0;
-    while s <= states {
-        let first = first_out(transitions, s);
-        begins[s] = first as u16;
-        s += 1;
+    for s in 0..states + 1 {
+        begins[s] = first_out(transitions, s) as u16;
     }
 }
 
 // Whether the transitions of some state end where they begin.
+// kept: as the cause is stated, of a state's place and the next one's; of windows it would take a law that these are such pairs.
 fn some_stuck(states: usize, begins: &[u16]) -> bool
     requires { states < length begins.now }
     ensures { result ≡ any_below (λ (s : ℕ). eqb (at begins.now s) (at begins.now (s + 1))) states }
 {
-    let mut s: usize = 0;
-    while s < states {
+    for s in 0..states {
         if begins[s] == begins[s + 1] {
             return true;
         }
-        s += 1;
     }
     false
 }
 
-pub fn read_transitions(states: usize, transitions: &[u16]) -> Transitions
-    ensures { result ≡ transitions_read states transitions.now }
+// Where each state's transitions begin, or the refusal of lowest number that applies to the tables: 1 or 6 to 9.
+pub fn read_transitions(states: usize, transitions: &[u16]) -> Result<Transitions, Refusal>
+    ensures { Answers (table_refusal states transitions.now) result (λ t. t.begins ≡ beginnings states transitions.now) }
 {
-    let none = [0u16; MOST_STATES + 1];
-    let early = early_fault(states, transitions);
-    if early != 0 {
-        return Transitions {
-            refusal: early,
-            begins: none,
-        };
-    }
+    check_count(states)?;
+    check_list(transitions)?;
+    check_each(states, transitions)?;
     let mut begins = [0u16; MOST_STATES + 1];
     fill_begins(states, transitions, &mut begins);
     if some_stuck(states, &begins) {
-        return Transitions {
-            refusal: 9,
-            begins: none,
-        };
+        return Err(Refusal::StuckState);
     }
-    Transitions { refusal: 0, begins }
+    Ok(Transitions { begins })
 }

@@ -3,5 +3,6 @@
 #![tactic(auto)]
 
 pub mod graph;
+pub mod lent;
 pub mod rows;
 pub mod tables;

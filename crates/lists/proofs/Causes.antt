@@ -57,10 +57,6 @@ pub none_refused : refusal_of [] ≡ 0
 unfolding refusal_of
 none_refused = refl
 
--- what a table gives stands above what its numbers rise from
-pub refusal_above : (m : ℕ) (cs : List Cause) → Rising m cs → (refusal_of cs ≡ 0) ⊎ (m < refusal_of cs)
-refusal_above m cs r = ⊎_elim inl (λ (p : 0 < refusal_of cs). inr (above m cs r (refusal_of cs) ((given m cs r).applies (λ z. omega arith)))) (eq-zero-or-pos (refusal_of cs))
-
 -- where nothing is refused, no cause applies
 pub passed : (n : ℕ) (b : Bool) (cs : List Cause) → refusal_of (cause (suc n) b ∷ cs) ≡ 0 → (b ≡ false) × (refusal_of cs ≡ 0)
 unfolding refusal_of

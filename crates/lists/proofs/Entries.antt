@@ -12,14 +12,15 @@ use lib.Dec.{T}
 use Rattle.lists.specs.Entries.{All, Some, at, is_nil}
 use Rattle.lists.proofs.Numbers.{same_or_not}
 
-pub zero_at : (n s : ℕ) → at (replicate n 0) s ≡ 0
-zero_at zero s = refl
-zero_at (suc n) zero = refl
-zero_at (suc n) (suc s) = zero_at n s
+-- of a list of one value, that value stands everywhere
+pub same_at : {A : Type 0} (z : A) (n s : ℕ) → get_or (replicate n z) s z ≡ z
+same_at z zero s = refl
+same_at z (suc n) zero = refl
+same_at z (suc n) (suc s) = same_at z n s
 
 -- what stands at s after a store at a
-pub set_at_or_not : (d : List ℕ) (a x s : ℕ) → a < length d → ((s ≡ a) × (at (set d a x) s ≡ x)) ⊎ ((s ≡ a → ⊥) × (at (set d a x) s ≡ at d s))
-set_at_or_not d a x s h = ⊎_elim (λ e. inl (e, rw e (get_or-set_same d a x 0 h))) (λ n. inr (n, get_or-set_other d a s x 0 n)) (same_or_not s a)
+pub set_or_not : {A : Type 0} (z : A) (d : List A) (a : ℕ) (x : A) (s : ℕ) → a < length d → ((s ≡ a) × (get_or (set d a x) s z ≡ x)) ⊎ ((s ≡ a → ⊥) × (get_or (set d a x) s z ≡ get_or d s z))
+set_or_not z d a x s h = ⊎_elim (λ e. inl (e, rw e (get_or-set_same d a x z h))) (λ n. inr (n, get_or-set_other d a s x z n)) (same_or_not s a)
 
 pub some_map {ℓ κ} : {A : Type ℓ} {B : Type κ} (f : A → B) (xs : List A) → Some xs → Some (map f xs)
 some_map f [] h = h
@@ -66,10 +67,6 @@ member_all P (x ∷ xs) h = (h x (Memᴰ.head refl), member_all P xs (λ y m. h 
 pub all_weaken : {A : Type 0} (P Q : A → Type 0) → ((x : A) → P x → Q x) → (xs : List A) → All P xs → All Q xs
 all_weaken P Q h [] a = tt
 all_weaken P Q h (x ∷ xs) a = (h x a.0, all_weaken P Q h xs a.1)
-
-pub all_map : {A : Type 0} (P : ℕ → Type 0) (f : A → ℕ) (xs : List A) → All (λ (x : A). P (f x)) xs → All P (map f xs)
-all_map P f [] a = tt
-all_map P f (x ∷ xs) a = (a.0, all_map P f xs a.1)
 
 -- two rules that agree on the entries give the same list
 pub map_all : {A : Type 0} (P : A → Type 0) (f g : A → ℕ) → ((x : A) → P x → f x ≡ g x) → (xs : List A) → All P xs → map f xs ≡ map g xs

@@ -32,9 +32,6 @@ module _ (s : List ℕ) (n to : ℕ) (before : List ℕ) (room : n ≤ length s)
       let q : j ≡ n = omega (arith, l.within) in
       l.table ∙ ap (paste before to s) q ∙ ap (λ (m : ℕ). take to before ++ take n s ++ drop (to + m) before) (sym (length-take-le n s room))
 
-pub laid_front : (xs before : List ℕ) → laid 0 xs before ≡ fill xs before
-laid_front xs before = ap (λ (m : ℕ). xs ++ drop m before) (zero-add (length xs))
-
 -- what stands in a table then, up to the values' end and behind it
 module _ (to : ℕ) (xs before : List ℕ) (room : to ≤ length before) where
   sized : length (take to before ++ xs) ≡ to + length xs

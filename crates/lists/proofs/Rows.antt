@@ -64,27 +64,11 @@ filled_more f s d out v e h q =
     ∙ sym (append_assoc (tab f s) (f s ∷ []) (drop (suc s) d))
     ∙ ap (λ (k : ℕ). tab f k ++ drop k d) (sym (add-one s))
 
--- or the entry that stands there already
-pub filled_next : (f : ℕ → ℕ) (s : ℕ) (d out : List ℕ) → Filled f s d out → s < length d → at out s ≡ at d s
-filled_next f s d out e h = ap (λ (l : List ℕ). at l s) (e ∙ ap (λ (r : List ℕ). tab f s ++ r) (drop-cons d s 0 h)) ∙ get_or_at (tab f s) (get_or d s 0) (drop (suc s) d) 0 s (length_tab f s)
-
-pub filled_stays : (f : ℕ → ℕ) (s : ℕ) (d out : List ℕ) → Filled f s d out → s < length d → at d s ≡ f s → Filled f (s + 1) d out
-unfolding tab
-filled_stays f s d out e h q =
-    e
-    ∙ ap (λ (r : List ℕ). tab f s ++ r) (drop-cons d s 0 h)
-    ∙ ap (λ (x : ℕ). tab f s ++ x ∷ drop (suc s) d) q
-    ∙ sym (append_assoc (tab f s) (f s ∷ []) (drop (suc s) d))
-    ∙ ap (λ (k : ℕ). tab f k ++ drop k d) (sym (add-one s))
-
 pub filled_end : (f : ℕ → ℕ) (s n : ℕ) (d out : List ℕ) → Filled f s d out → s ≤ n → n ≤ s → Filled f n d out
 filled_end f s n d out e h k = let q : s ≡ n = omega arith in e ∙ ap (λ (m : ℕ). tab f m ++ drop m d) q
 
 pub filled_length : (f : ℕ → ℕ) (s : ℕ) (d out : List ℕ) → Filled f s d out → s ≤ length d → length out ≡ length d
 filled_length f s d out e h = ap length e ∙ length-append (tab f s) (drop s d) ∙ omega (arith, length_tab f s, length-drop s d)
-
-pub filled_room : (f : ℕ → ℕ) (s i : ℕ) (d out : List ℕ) → Filled f s d out → s ≤ length d → i < length d → i < length out
-filled_room f s i d out e h k = omega (arith, filled_length f s d out e h)
 
 -- what a filled list holds: its front, an entry of it, and what was there behind it
 pub filled_front : (f : ℕ → ℕ) (n : ℕ) (d out : List ℕ) → Filled f n d out → take n out ≡ tab f n

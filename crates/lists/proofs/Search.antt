@@ -4,6 +4,9 @@ use Prim.Native.Nat.{ℕ, zero, suc, ◌+◌, ◌≤◌, ◌<◌}
 use native.Mathlib.Numerals.{add-one}
 use native.Mathlib.Omega.{arith}
 use mathlib.Core.Bool.{Bool, true, false, ◌||◌, or-true}
+use mathlib.Core.List.{List, [], ◌∷◌}
+use lib.ListN.{length, get_or}
+use Rattle.std.specs.List.{list_any}
 use mathlib.Core.Logic.{⊎_elim}
 use lib.Dec.{T}
 use Rattle.lists.specs.Entries.{any_below}
@@ -61,3 +64,22 @@ pub any_never : (n : ℕ) → any_below (λ (i : ℕ). false) n ≡ false
 unfolding any_below
 any_never zero = refl
 any_never (suc n) = rw (any_never n)
+
+or_or : (a b c : Bool) → ((a || b) || c) ≡ (a || (b || c))
+or_or true b c = refl
+or_or false b c = refl
+
+any_first : (p : ℕ → Bool) (n : ℕ) → any_below p (suc n) ≡ (p 0 || any_below (λ (i : ℕ). p (suc i)) n)
+unfolding any_below
+any_first p zero = or_zero (p 0)
+  where
+    or_zero : (b : Bool) → (false || b) ≡ (b || false)
+    or_zero true = refl
+    or_zero false = refl
+any_first p (suc n) = ap (λ (b : Bool). b || p (suc n)) (any_first p n) ∙ or_or (p 0) (any_below (λ (i : ℕ). p (suc i)) n) (p (suc n))
+
+-- a search through the places is one through the entries; past the end stands d
+pub any_list : {A : Type 0} → (p : A → Bool) (d : A) (xs : List A) → any_below (λ (i : ℕ). p (get_or xs i d)) (length xs) ≡ list_any p xs
+unfolding any_below
+any_list p d [] = refl
+any_list p d (x ∷ xs) = any_first (λ (i : ℕ). p (get_or (x ∷ xs) i d)) (length xs) ∙ ap (λ (b : Bool). p x || b) (any_list p d xs)

@@ -1,4 +1,4 @@
-pub mod Makers
+pub mod Refusing
 pub mod StoredRows
 pub mod OneAnswer
 pub mod Decimals

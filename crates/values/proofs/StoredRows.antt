@@ -2,16 +2,15 @@
 use mathlib.Core.Path.{◌≡◌, refl, sym, ap, ◌∙◌}
 use Prim.Native.Nat.{ℕ, ◌-◌, ◌≤◌, ◌<◌}
 use mathlib.Core.List.{List, ◌++◌}
-use mathlib.Core.Bool.{Bool, true, false, cond, not, ◌&&◌}
+use mathlib.Core.Bool.{true, false, not, ◌&&◌}
 use mathlib.Core.Logic.{⊎_elim}
 use native.Mathlib.Omega.{arith}
 use native.Mathlib.Nat.{mul-le-mul}
 use lib.ListN.{length, replicate, length-replicate, get_or-eq_default}
 use lib.Dec.{eqb, ltb, leb}
-use borrow.Author.Tests.{le-ltb, le-leb, eq-eqb, ltb-false, leb-true, eqb-true, not-true, not-false}
-use Rattle.values.specs.Answers.{row_read}
+use borrow.Author.Tests.{lt-ltb, lt-leb, le-ltb, le-leb, eq-eqb, ltb-false, eqb-true, not-false}
 use Rattle.values.specs.Limits.{most_states, most_nodes}
-use Rattle.values.specs.Rows.{bad_row, most_verdicts, row_begin, row_size, row_values, some_above, stored_row, value_at}
+use Rattle.values.specs.Rows.{bad_row, no_row, most_verdicts, row_begin, row_size, row_values, some_above, stored_row, value_at}
 use Rattle.values.specs.Values.{top}
 use Rattle.lists.specs.Entries.{at}
 use Rattle.values.specs.Inside.{RowTaken}
@@ -19,50 +18,60 @@ use Rattle.lists.specs.Rows.{Filled, tab}
 use Rattle.lists.proofs.Numbers.{lt_or_le}
 use Rattle.lists.proofs.Rows.{drop_replicate, filled_at, filled_length, tab_at, tab_own}
 use Rattle.lists.proofs.Search.{any_never, any_none, any_same}
-use Rattle.lists.proofs.Tests.{and_both, and_holds, and_parts, or_neither, or_none}
-use Rattle.values.specs.declared.rows.Row.{Row}
+use Rattle.lists.proofs.Tests.{and_fails, or_fails, or_left, or_right, and_both, and_holds, or_neither, or_none}
 
 -- as many bytes as states at the least
 pub row_bytes : (S : ℕ) (stored : List ℕ) → bad_row S stored ≡ false → S ≤ length stored
 unfolding bad_row row_size
 row_bytes S stored e = omega (arith, eqb-true (length stored) S (not-false _ (or_neither _ _ e).0))
 
--- what is answered goes by the test alone
-answer : ℕ → List ℕ → Bool → Row
-answer S stored b = record { valid = b; values = cond b (row_values S stored ++ replicate (most_states - S) 0) (replicate most_states 0) }
+pub row_many : (S : ℕ) (stored : List ℕ) → most_states < S → no_row S stored ≡ true
+unfolding no_row
+row_many S stored l = or_left _ _ (lt-ltb most_states S l)
 
-pub row_refused : (S : ℕ) (stored : List ℕ) (r : Row) → r.valid ≡ false → r.values ≡ replicate most_states 0 → (leb S most_states && not (bad_row S stored)) ≡ false → r ≡ row_read S stored
-unfolding row_read answer
-row_refused S stored r v w e = (λ i. record { valid = v i; values = w i }) ∙ ap (answer S stored) (sym e)
+pub row_bad : (S : ℕ) (stored : List ℕ) → bad_row S stored ≡ true → no_row S stored ≡ true
+unfolding no_row
+row_bad S stored e = or_right (ltb most_states S) _ e
 
-pub row_taken : (S : ℕ) (stored : List ℕ) (r : Row) → r.valid ≡ true → Filled (value_at stored) S (replicate most_states 0) r.values → S ≤ most_states → bad_row S stored ≡ false → r ≡ row_read S stored
-unfolding row_read answer row_values
-row_taken S stored r v w few fine =
-    let filled : r.values ≡ row_values S stored ++ replicate (most_states - S) 0 = w ∙ ap (λ (rest : List ℕ). tab (value_at stored) S ++ rest) (drop_replicate S most_states 0) in
-    (λ i. record { valid = v i; values = filled i }) ∙ ap (answer S stored) (sym (and_both (leb S most_states) (not (bad_row S stored)) (le-leb S most_states few) (ap not fine)))
+pub row_some : (S : ℕ) (stored : List ℕ) → S ≤ most_states → bad_row S stored ≡ false → no_row S stored ≡ false
+unfolding no_row
+row_some S stored few fine = or_none _ _ (le-ltb most_states S few) fine
+
+pub row_parts : (S : ℕ) (stored : List ℕ) → no_row S stored ≡ false → (S ≤ most_states) × (bad_row S stored ≡ false)
+unfolding no_row
+row_parts S stored e = let p = or_neither (ltb most_states S) (bad_row S stored) e in (ltb-false most_states S p.0, p.1)
+
+pub row_not_read : (S : ℕ) (stored : List ℕ) → no_row S stored ≡ true → S ≤ most_states → bad_row S stored ≡ true
+unfolding no_row
+row_not_read S stored e few = sym (or_fails (ltb most_states S) _ (le-ltb most_states S few)) ∙ e
+
+pub row_filled : (S : ℕ) (stored values : List ℕ) → Filled (value_at stored) S (replicate most_states 0) values → values ≡ row_values S stored ++ replicate (most_states - S) 0
+unfolding row_values
+row_filled S stored values w = w ∙ ap (λ (rest : List ℕ). tab (value_at stored) S ++ rest) (drop_replicate S most_states 0)
 
 -- what a caller has of a row that is one
-pub row_read_lem : (S : ℕ) (stored : List ℕ) (r : Row) → r ≡ row_read S stored → r.valid ≡ true → RowTaken S stored r.values
-unfolding row_read row_values
-row_read_lem S stored r e v =
-    let test : (leb S most_states && not (bad_row S stored)) ≡ true = ap (λ (x : Row). x.valid) (sym e) ∙ v in
-    let p = and_parts (leb S most_states) (not (bad_row S stored)) test in
-    let few : S ≤ most_states = leb-true S most_states p.0 in
-    let filled : Filled (value_at stored) S (replicate most_states 0) r.values = ap (λ (x : Row). x.values) e ∙ ap (λ (b : Bool). cond b (row_values S stored ++ replicate (most_states - S) 0) (replicate most_states 0)) test ∙ ap (λ (rest : List ℕ). tab (value_at stored) S ++ rest) (sym (drop_replicate S most_states 0)) in
+pub row_read_lem : (S : ℕ) (stored values : List ℕ) → no_row S stored ≡ false → values ≡ row_values S stored ++ replicate (most_states - S) 0 → RowTaken S stored values
+unfolding row_values
+row_read_lem S stored values some e =
+    let p = row_parts S stored some in
+    let filled : Filled (value_at stored) S (replicate most_states 0) values = e ∙ ap (λ (rest : List ℕ). tab (value_at stored) S ++ rest) (sym (drop_replicate S most_states 0)) in
     record {
-      few = few;
-      fine = not-true (bad_row S stored) p.1;
-      long = filled_length (value_at stored) S (replicate most_states 0) r.values filled (rw length-replicate few) ∙ length-replicate {A = ℕ} most_states 0;
-      here = filled_at (value_at stored) S (replicate most_states 0) r.values filled;
+      few = p.0;
+      fine = p.1;
+      long = filled_length (value_at stored) S (replicate most_states 0) values filled (rw length-replicate p.0) ∙ length-replicate {A = ℕ} most_states 0;
+      here = filled_at (value_at stored) S (replicate most_states 0) values filled;
     }
 
-pub row_fine : (S : ℕ) (stored : List ℕ) → S ≤ most_states → bad_row S stored ≡ false → RowTaken S stored (row_read S stored).values
-unfolding row_read
-row_fine S stored few fine = row_read_lem S stored (row_read S stored) refl (and_both (leb S most_states) (not (bad_row S stored)) (le-leb S most_states few) (ap not fine))
+-- the same by the two tests
+pub row_valid : (S : ℕ) (stored : List ℕ) → no_row S stored ≡ false → (leb S most_states && not (bad_row S stored)) ≡ true
+row_valid S stored e = let p = row_parts S stored e in and_both _ _ (le-leb S most_states p.0) (ap not p.1)
 
-pub row_not_read : (S : ℕ) (stored : List ℕ) (r : Row) → r ≡ row_read S stored → r.valid ≡ false → S ≤ most_states → bad_row S stored ≡ true
-unfolding row_read
-row_not_read S stored r e v few = not-false (bad_row S stored) (sym (and_holds (leb S most_states) (not (bad_row S stored)) (le-leb S most_states few)) ∙ ap (λ (x : Row). x.valid) (sym e) ∙ v)
+pub row_invalid : (S : ℕ) (stored : List ℕ) → no_row S stored ≡ true → (leb S most_states && not (bad_row S stored)) ≡ false
+row_invalid S stored e =
+    ⊎_elim
+    (λ (many : most_states < S). and_fails _ _ (lt-leb S most_states many))
+    (λ (few : S ≤ most_states). and_holds _ _ (le-leb S most_states few) ∙ ap not (row_not_read S stored e few))
+    (lt_or_le most_states S)
 
 -- no entry above v: each is at most v, and past the end it is 0
 pub none_above : (xs : List ℕ) (v : ℕ) → some_above xs v ≡ false → (i : ℕ) → at xs i ≤ v

@@ -33,6 +33,10 @@ row_values S stored = tab (value_at stored) S
 unfoldable pub bad_row : ℕ → List ℕ → Bool
 bad_row S stored = not (eqb (length stored) (row_size S)) || some_above stored top
 
+-- no row of at most the most states
+unfoldable pub no_row : ℕ → List ℕ → Bool
+no_row S stored = ltb most_states S || bad_row S stored
+
 -- the bytes of the largest verdict space
 unfoldable pub most_verdicts : ℕ
 most_verdicts = row_begin most_states most_nodes

@@ -3,15 +3,15 @@ ghost use Rattle.std.specs.Prelude.{◌≡◌, ◌<◌, ◌≤◌, length};
 ghost use Rattle.lists.specs.Rows.{Filled};
 ghost use Rattle.values.specs.Values.{top};
 ghost use Rattle.values.specs.Rows.{some_above, row_size, value_at, bad_row};
-ghost use Rattle.values.specs.Answers.{row_read, RowStored};
+ghost use Rattle.values.specs.Answers.{RowRead, RowStored};
 
 use crate::limits::MOST_STATES;
-use crate::verdict::{Made, Verdict};
+use crate::verdict::Verdict;
 
-// A stored row, read: whether it is one of so many states, and its values, the rest 0.
+// A stored row, read: its values, the rest 0.
+// kept: an array for the most states, of which a caller knows how many count, since memory is fixed, a rule of the project.
 #[derive(Clone, Copy)]
 pub struct Row {
-    pub valid: bool,
     pub values: [u8; MOST_STATES],
 }
 
@@ -26,28 +26,17 @@ pub fn row_size(states: usize) -> usize
 pub fn some_above(list: &[u8], value: u8) -> bool
     ensures { result ≡ some_above list.now value }
 {
-    let n = list.len();
-    let mut i: usize = 0;
-    while i < n {
-        if value < list[i] {
-            return true;
-        }
-        i += 1;
-    }
-    false
+    list.iter().any(|&x| value < x)
 }
 
 // Whether a byte is the number of no verdict.
 pub fn some_no_verdict(list: &[u8]) -> bool
     ensures { result ≡ some_above list.now top }
 {
-    let n = list.len();
-    let mut i: usize = 0;
-    while i < n {
-        let Made::One(_value) = Verdict::of(list[i]) else {
+    for &number in list {
+        let Some(_value) = Verdict::of(number) else {
             return true;
         };
-        i += 1;
     }
     false
 }
@@ -71,41 +60,33 @@ fn value_at(stored: &[u8], s: usize) -> u8
 }
 
 // The values of a row, at the front of a space.
+// kept: value by value: where a row has a state's value value_at alone says, and a copy of slices would say it again.
 fn unpack(states: usize, stored: &[u8], values: &mut [u8])
     requires { (states ≤ length values.old) × (states ≤ length stored.now) }
     ensures { Filled (value_at stored.now) states values.old values.new }
 {
-    let mut s: usize = 0;
-    while s < states {
+    for s in 0..states {
         values[s] = value_at(stored, s);
-        s += 1;
     }
 }
 
-pub fn read_row(states: usize, stored: &[u8]) -> Row
-    ensures { result ≡ row_read states stored.now }
+// A stored row of so many states, if it is one.
+pub fn read_row(states: usize, stored: &[u8]) -> Option<Row>
+    ensures { RowRead states stored.now result }
 {
-    let mut values = [0u8; MOST_STATES];
     if MOST_STATES < states {
-        return Row {
-            valid: false,
-            values,
-        };
+        return None;
     }
     if bad_row(states, stored) {
-        return Row {
-            valid: false,
-            values,
-        };
+        return None;
     }
+    let mut values = [0u8; MOST_STATES];
     unpack(states, stored, &mut values);
-    Row {
-        valid: true,
-        values,
-    }
+    Some(Row { values })
 }
 
 // Copies a finished row to the front of a space, or says that it has no room and leaves it.
+// kept: the answer is a yes or no, and nothing stands beside it.
 pub fn store_row(values: &[u8], space: &mut [u8]) -> bool
     ensures { RowStored values.now space.old space.new result }
 {
@@ -113,10 +94,6 @@ pub fn store_row(values: &[u8], space: &mut [u8]) -> bool
     if space.len() < n {
         return false;
     }
-    let mut i: usize = 0;
-    while i < n {
-        space[i] = values[i];
-        i += 1;
-    }
+    space[..n].copy_from_slice(values);
     true
 }

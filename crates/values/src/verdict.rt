@@ -1,17 +1,11 @@
 // A verdict: false is 0, unknown is 1, true is 2.
 ghost use Rattle.std.specs.Prelude.{◌≡◌, min, max};
 ghost use Rattle.values.specs.Values.{neg};
-ghost use Rattle.values.specs.Answers.{verdict, verdict_of};
+ghost use Rattle.values.specs.Answers.{verdict, VerdictOf};
 
-#[derive(Clone, Copy)]
+// kept: a form that a rule of the project names: a type with constants for the three values, and functions that make one.
+#[derive(Clone, Copy, PartialEq, Eq, PartialOrd, Ord, Debug)]
 pub struct Verdict(pub u8);
-
-// What a number makes: a verdict, or none.
-#[derive(Clone, Copy)]
-pub enum Made {
-    One(Verdict),
-    None,
-}
 
 impl Verdict {
     pub const FALSE: Verdict = Verdict(0);
@@ -20,19 +14,16 @@ impl Verdict {
 
     pub const TRUE: Verdict = Verdict(2);
 
-    pub fn of(number: u8) -> Made
-        ensures { result ≡ verdict_of number }
+    // The verdict of a number, if it has one.
+    pub fn of(number: u8) -> Option<Verdict>
+        ensures { VerdictOf number result }
     {
-        if number == 0 {
-            return Made::One(Verdict::FALSE);
+        match number {
+            0 => Some(Verdict::FALSE),
+            1 => Some(Verdict::UNKNOWN),
+            2 => Some(Verdict::TRUE),
+            _ => None,
         }
-        if number == 1 {
-            return Made::One(Verdict::UNKNOWN);
-        }
-        if number == 2 {
-            return Made::One(Verdict::TRUE);
-        }
-        Made::None
     }
 
     pub fn number(self) -> u8
@@ -44,24 +35,22 @@ impl Verdict {
     pub fn not(self) -> Verdict
         ensures { result ≡ verdict (neg self.0) }
     {
-        if self.0 == 0 {
-            return Verdict::TRUE;
+        match self {
+            Verdict::FALSE => Verdict::TRUE,
+            Verdict::UNKNOWN => Verdict::UNKNOWN,
+            _ => Verdict::FALSE,
         }
-        if self.0 == 1 {
-            return Verdict::UNKNOWN;
-        }
-        Verdict::FALSE
     }
 
     pub fn and(self, other: Verdict) -> Verdict
         ensures { result ≡ verdict (min self.0 other.0) }
     {
-        if self.0 <= other.0 { self } else { other }
+        self.min(other)
     }
 
     pub fn or(self, other: Verdict) -> Verdict
         ensures { result ≡ verdict (max self.0 other.0) }
     {
-        if self.0 <= other.0 { other } else { self }
+        self.max(other)
     }
 }

@@ -1,17 +1,7 @@
 -- `first_out` meets its contract, and looks at no more transitions than their number has binary digits: that is the measure.
-use Prim.Native.Nat.{◌-◌}
 use native.Mathlib.Omega.{arith}
-use lib.Ieee.{size}
-use borrow.Author.Rules.{rules}
-use mir.Facts.{Fits-widen}
-use Rattle.kripke.proofs.Halving.{Between, between_all, closed_in, half_shorter, lower_half, upper_half}
+use Rattle.kripke.proofs.Halving.{closed_in, half_shorter, lower_half, upper_half}
 use Rattle.kripke.proofs.graph.first_out.Goals as goal
-
-pub loop-low-init : goal.loop-low-init
-loop-low-init c = between_all _ _
-
-pub overflow_cast-from : goal.overflow_cast-from
-overflow_cast-from c = Fits-widen tt (c.type_inv.transitions _)
 
 pub loop-low-smaller-then-from-s : goal.loop-low-smaller-then-from-s
 loop-low-smaller-then-from-s c = half_shorter _ _ (omega arith) (omega arith)

@@ -1,10 +1,7 @@
 -- `first_out` meets its contract, and looks at no more transitions than their number has binary digits: that is the measure.
 use Prim.Native.Nat.{◌-◌}
-use native.Mathlib.Omega.{arith}
 use lib.Ieee.{size}
-use borrow.Author.Rules.{rules}
-use mir.Facts.{Fits-widen}
-use Rattle.kripke.proofs.Halving.{Between, between_all, closed_in, half_shorter, lower_half, upper_half}
+use Rattle.kripke.proofs.Halving.{Between}
 use Rattle.kripke.proofs.graph.first_out.Given as goal
 
 abbrev pub invariant-loop-low : goal.invariant-loop-low

@@ -1,26 +1,12 @@
 -- `deny` meets its contract: a row filled from the front.
 use mathlib.Core.Path.{ap, ◌∙◌}
-use Prim.Native.Nat.{ℕ, ◌-◌, ◌≤◌}
 use native.Mathlib.Omega.{arith}
-use Rattle.lists.specs.Entries.{at}
-use Rattle.lists.specs.Rows.{Filled}
-use Rattle.lists.proofs.Rows.{filled_end, filled_length, filled_more, filled_none, filled_room}
-use Rattle.values.specs.Values.{neg}
+use Rattle.lists.proofs.Rows.{filled_more, filled_none}
 use Rattle.values.specs.declared.verdict.Verdict.{Verdict}
-use borrow.Author.Rules.{rules}
 use Rattle.kripke.proofs.rows.deny.Goals as goal
 
 pub loop-s-init : goal.loop-s-init
-loop-s-init c = (omega arith, filled_none _ _)
-
-pub bounds-out-s : goal.bounds-out-s
-bounds-out-s c = filled_room _ _ _ _ _ c.loop-s.invariant.1 (omega arith) (omega arith)
+loop-s-init c = filled_none _ _
 
 pub loop-s-preserved : goal.loop-s-preserved
-loop-s-preserved c = (omega arith, filled_more _ _ _ _ _ c.loop-s.invariant.1 (omega arith) (c.number.ensures ∙ ap (λ (v : Verdict). v.0) c.not-value.ensures))
-
-pub shape_of-out : goal.shape_of-out
-shape_of-out c = filled_length _ _ _ _ c.loop-s.invariant.1 (omega arith)
-
-pub returns : goal.returns
-returns c = filled_end _ _ _ _ _ c.loop-s.invariant.1 (omega arith) (omega arith)
+loop-s-preserved c = filled_more _ _ _ _ _ c.loop-s.invariant (omega arith) (c.number.ensures ∙ ap (λ (v : Verdict). v.0) c.not.ensures)

@@ -2,7 +2,6 @@
 use mathlib.Core.Path.{sym, ap, ◌∙◌}
 use mathlib.Core.Bool.{not}
 use borrow.Author.Tests.{eq-eqb, ne_eqb}
-use borrow.Author.Rules.{rules}
 use Rattle.values.specs.Rows.{bad_row}
 use Rattle.lists.proofs.Tests.{or_fails, or_left}
 use Rattle.values.proofs.rows.bad_row.Goals as goal

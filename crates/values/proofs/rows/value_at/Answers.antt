@@ -1,6 +1,5 @@
 -- `value_at` meets its contract.
 use mathlib.Core.Path.{refl}
-use borrow.Author.Rules.{rules}
 use Rattle.values.specs.Rows.{value_at}
 use Rattle.values.proofs.rows.value_at.Goals as goal
 
