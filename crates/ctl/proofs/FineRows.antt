@@ -8,7 +8,8 @@ use native.Mathlib.Nat.{mul-le-mul_right}
 use lib.ListN.{length, get_or, take}
 use lib.Seq.{get_or_at}
 use Rattle.ctl.specs.Inside.{Judgeable, RowsFit, node_row_at, operand_row}
-use Rattle.model.specs.Kinds.{Kind, kind_of}
+use Rattle.model.specs.Kinds.{kind_of}
+use Rattle.model.specs.declared.kinds.Kind.{Kind}
 use Rattle.model.specs.Model.{Model, kind_at, left_at, right_at, node_count}
 use Rattle.ctl.specs.Operators.{RowFine}
 use Rattle.ctl.specs.Nodes.{node_row, node_value}

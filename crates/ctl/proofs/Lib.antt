@@ -1,6 +1,4 @@
-pub mod KindLaws
 pub mod Copies
-pub mod Scan
 pub mod Operands
 pub mod Spaces
 pub mod NodeLists
@@ -15,3 +13,5 @@ pub mod Operators
 pub mod Held
 pub mod OneAnswer
 pub mod Unknowns
+pub mod Lent
+pub mod Made

@@ -1,52 +1,49 @@
 -- Reading an operand's row out of the verdict space.
-use mathlib.Core.Path.{◌≡◌, refl, ap, ◌∙◌, subst}
+use Rattle.std.specs.Prelude.{Option, Some, None, is_some}
+use mathlib.Core.Path.{◌≡◌, refl, sym, ap, ◌∙◌, subst}
 use Prim.Native.Nat.{ℕ, zero, suc, ◌+◌, ◌*◌, ◌-◌, ◌≤◌, ◌<◌}
 use mathlib.Core.List.{List, [], ◌∷◌, ◌++◌}
-use mathlib.Core.Bool.{Bool, true, false, cond, not, ◌&&◌}
+use mathlib.Core.Bool.{true, true≢false}
 use native.Mathlib.Omega.{arith}
 use native.Mathlib.Nat.{mul-le-mul_right}
-use lib.ListN.{take, drop, replicate, length-replicate}
-use lib.Dec.{leb}
-use borrow.Author.Tests.{lt-ltb, le-ltb, le-leb}
+use lib.ListN.{take, drop, replicate}
+use borrow.Author.Tests.{lt-ltb, le-ltb}
 use Rattle.ctl.specs.Inside.{OperandRead, RowsFit, operand_row}
-use Rattle.values.specs.Answers.{row_read}
+use Rattle.values.specs.Answers.{RowRead}
 use Rattle.values.specs.Limits.{most_states}
 use Rattle.values.specs.Rows.{bad_row, row_begin, row_in, row_size, row_values, value_at}
 use Rattle.values.specs.Values.{top}
 use Rattle.lists.specs.Entries.{at}
-use Rattle.values.proofs.StoredRows.{row_read_lem, row_values_small}
-use Rattle.lists.proofs.Entries.{zero_at}
+use Rattle.values.proofs.StoredRows.{row_some, row_values_small}
+use Rattle.lists.proofs.Entries.{same_at}
 use Rattle.lists.proofs.Rows.{tab_at}
-use Rattle.lists.proofs.Tests.{and_both}
 use Rattle.values.specs.declared.rows.Row.{Row}
 
 -- zeros behind a row change no value
 pub behind_zeros : (xs : List ℕ) (n s : ℕ) → at (xs ++ replicate n 0) s ≡ at xs s
-behind_zeros [] n s = zero_at n s
+behind_zeros [] n s = same_at 0 n s
 behind_zeros (x ∷ xs) n zero = refl
 behind_zeros (x ∷ xs) n (suc s) = behind_zeros xs n s
 
 -- what is no earlier node has no row
 pub operand_none : (S : ℕ) (space : List ℕ) (i k : ℕ) → i ≤ k → OperandRead S space i k (replicate most_states 0)
 unfolding operand_row
-operand_none S space i k h = record { long = length-replicate {A = ℕ} most_states 0; here = λ s. zero_at most_states s ∙ rw (le-ltb k i h) }
+operand_none S space i k h s = same_at 0 most_states s ∙ rw (le-ltb k i h)
 
-pub operand_row_lem : (S : ℕ) (space : List ℕ) (i k : ℕ) → RowsFit S i space → k < i → (r : Row) (bytes : List ℕ) → bytes ≡ row_in S space k → r ≡ row_read S bytes → OperandRead S space i k r.values
-unfolding operand_row row_read
-operand_row_lem S space i k fit h r bytes b e =
-    let fine : bad_row S bytes ≡ false = ap (bad_row S) b ∙ fit.stand k h in
-    let valid : (leb S most_states && not (bad_row S bytes)) ≡ true = and_both _ _ (le-leb S most_states fit.few) (ap not fine) in
-    let taken = row_read_lem S bytes r e (ap (λ (x : Row). x.valid) e ∙ valid) in
-    record {
-      long = taken.long;
-      here = λ s. ap (λ (x : Row). at x.values s) e ∙ ap (λ (t : Bool). at (cond t (row_values S bytes ++ replicate (most_states - S) 0) (replicate most_states 0)) s) valid ∙ behind_zeros (row_values S bytes) (most_states - S) s ∙ ap (λ (x : List ℕ). at (row_values S x) s) b ∙ rw (lt-ltb k i h);
-    }
+pub operand_row_lem : (S : ℕ) (space : List ℕ) (i k : ℕ) → RowsFit S i space → k < i → (r : Row) (bytes : List ℕ) → bytes ≡ row_in S space k → RowRead S bytes (Some r) → OperandRead S space i k r.values
+unfolding operand_row
+operand_row_lem S space i k fit h r bytes b e s = ap (λ (x : List ℕ). at x s) e.1 ∙ behind_zeros (row_values S bytes) (most_states - S) s ∙ ap (λ (x : List ℕ). at (row_values S x) s) b ∙ rw (lt-ltb k i h)
+
+-- there is one
+pub operand_there : (S : ℕ) (space : List ℕ) (i k : ℕ) → RowsFit S i space → k < i → (o : Option Row) (bytes : List ℕ) → bytes ≡ row_in S space k → RowRead S bytes o → is_some o ≡ true
+operand_there S space i k fit h (Some r) bytes b e = refl
+operand_there S space i k fit h None bytes b e = absurd (true≢false (sym e ∙ row_some S bytes fit.few (ap (bad_row S) b ∙ fit.stand k h)))
 
 -- the values of an earlier node's row are at most 2
 pub operand_small : (S : ℕ) (space : List ℕ) (i k : ℕ) → RowsFit S i space → k < i → (values : List ℕ) → OperandRead S space i k values → (s : ℕ) → s < S → at values s ≤ top
 unfolding operand_row row_values
 operand_small S space i k fit h values read s l =
-    let here : at values s ≡ value_at (row_in S space k) s = read.here s ∙ rw (lt-ltb k i h) (tab_at (value_at (row_in S space k)) S s l) in
+    let here : at values s ≡ value_at (row_in S space k) s = read s ∙ rw (lt-ltb k i h) (tab_at (value_at (row_in S space k)) S s l) in
     omega (arith, here, row_values_small S (row_in S space k) (fit.stand k h) s)
 
 -- the part that is lent holds the row's bytes

@@ -12,7 +12,8 @@ use Rattle.kripke.specs.Transitions.{Graph}
 use Rattle.kripke.specs.Until.{next, opposite}
 use Rattle.kripke.specs.Endless.{EveryHas, EveryKeeps, SomeHas, SomeKeeps}
 use Rattle.model.specs.Model.{Model}
-use Rattle.model.specs.Kinds.{AF, AG, AND, AX, EF, EG, EX, IMPLIES, Kind, OR}
+use Rattle.model.specs.declared.kinds.Kind.{Kind}
+use Rattle.model.specs.declared.kinds.Kind.TheVariants.{Af, Ag, And, Ax, Ef, Eg, Ex, Implies, Or}
 use Rattle.ctl.specs.Nodes.{node_row, node_value}
 use Rattle.ctl.specs.Operators.{Dual, EveryNext, Greatest, Least, OnRows, RowFine, Says, SomeNext, Unfolds, of_two, row_of}
 use Rattle.kripke.proofs.Always.{all_next, always, always_greatest, always_small, always_unfolds, eventually, eventually_least, eventually_small, eventually_unfolds, next_small, opposite_at, small_opposite, small_tab}
@@ -22,16 +23,16 @@ use Rattle.lists.proofs.Rows.{length_tab, tab_at, tab_own, tab_same}
 
 -- the kinds by "some" and "all"; always is not eventually not, and its flag is that of eventually
 abbrev next_of : Bool → Kind
-next_of false = EX
-next_of true = AX
+next_of false = Ex
+next_of true = Ax
 
 abbrev eventually_of : Bool → Kind
-eventually_of false = EF
-eventually_of true = AF
+eventually_of false = Ef
+eventually_of true = Af
 
 abbrev always_of : Bool → Kind
-always_of false = AG
-always_of true = EG
+always_of false = Ag
+always_of true = Eg
 
 module _ (m : Model) (G : Graph m.states m.transitions) where
   abbrev S : ℕ
@@ -81,77 +82,77 @@ module _ (m : Model) (G : Graph m.states m.transitions) where
   opposite_row f = record { size = length_tab _ S; small = small_opposite S es G f }
 
   -- f joined to the next of X, by the kinds
-  or_next : (all : Bool) (f X : List ℕ) → ((t : ℕ) → at X t ≤ top) → (s : ℕ) → s < S → of_two m OR f (row_of m (next_of all) X) s ≡ max (at f s) (next all es X s)
+  or_next : (all : Bool) (f X : List ℕ) → ((t : ℕ) → at X t ≤ top) → (s : ℕ) → s < S → of_two m Or f (row_of m (next_of all) X) s ≡ max (at f s) (next all es X s)
   unfolding node_value
   or_next all f X small s h = ap (max (at f s)) (next_at all X small s h)
 
-  and_next : (all : Bool) (f X : List ℕ) → ((t : ℕ) → at X t ≤ top) → (s : ℕ) → s < S → of_two m AND f (row_of m (next_of all) X) s ≡ min (at f s) (next all es X s)
+  and_next : (all : Bool) (f X : List ℕ) → ((t : ℕ) → at X t ≤ top) → (s : ℕ) → s < S → of_two m And f (row_of m (next_of all) X) s ≡ min (at f s) (next all es X s)
   unfolding node_value
   and_next all f X small s h = ap (min (at f s)) (next_at all X small s h)
 
 -- EF f is f or EX EF f, AF f is f or AX AF f
-pub eventually_unfold : (all : Bool) → Unfolds (eventually_of all) OR (next_of all)
+pub eventually_unfold : (all : Bool) → Unfolds (eventually_of all) Or (next_of all)
 eventually_unfold all m G f g r q s h =
     let row : List ℕ = tab (eventually m.states m.transitions G all f) m.states in
     let small = small_tab m.states m.transitions G (eventually m.states m.transitions G all f) (eventually_small m.states m.transitions G all f r.small) in
     eventually_value m G all f [] s
     ∙ eventually_unfolds m.states m.transitions G all f r.small s h
     ∙ sym (or_next m G all f row small s h)
-    ∙ ap (λ (X : List ℕ). of_two m OR f (row_of m (next_of all) X) s) (sym (eventually_row m G all f))
+    ∙ ap (λ (X : List ℕ). of_two m Or f (row_of m (next_of all) X) s) (sym (eventually_row m G all f))
 
 -- EG f is f and EX EG f, AG f is f and AX AG f
-pub always_unfold : (all : Bool) → Unfolds (always_of all) AND (next_of (not all))
+pub always_unfold : (all : Bool) → Unfolds (always_of all) And (next_of (not all))
 always_unfold all m G f g r q s h =
     let row : List ℕ = tab (always m.states m.transitions G all f) m.states in
     let small = small_tab m.states m.transitions G (always m.states m.transitions G all f) (λ t l. always_small m.states m.transitions G all f t) in
     always_value m G all f [] s
     ∙ always_unfolds m.states m.transitions G all f r.small s h
     ∙ sym (and_next m G (not all) f row small s h)
-    ∙ ap (λ (X : List ℕ). of_two m AND f (row_of m (next_of (not all)) X) s) (sym (always_row m G all f))
+    ∙ ap (λ (X : List ℕ). of_two m And f (row_of m (next_of (not all)) X) s) (sym (always_row m G all f))
 
-pub eventually_is_least : (all : Bool) → Least (eventually_of all) OR (next_of all)
+pub eventually_is_least : (all : Bool) → Least (eventually_of all) Or (next_of all)
 eventually_is_least all m G f X r q s h raised =
     subst (λ (v : ℕ). v ≤ at X s) (sym (eventually_value m G all f [] s))
     (eventually_least m.states m.transitions G all f X (λ t l. subst (λ (v : ℕ). v ≤ at X t) (or_next m G all f X q.small t l) (raised t l)) s h)
 
-pub always_is_greatest : (all : Bool) → Greatest (always_of all) AND (next_of (not all))
+pub always_is_greatest : (all : Bool) → Greatest (always_of all) And (next_of (not all))
 always_is_greatest all m G f X r q s h lowered =
     subst (λ (v : ℕ). at X s ≤ v) (sym (always_value m G all f [] s))
     (always_greatest m.states m.transitions G all f r.small X (λ t l. subst (λ (v : ℕ). at X t ≤ v) (and_next m G (not all) f X q.small t l) (lowered t l)) s h)
 
 -- of next states and of endless paths
-pub ex_says : Says EX SomeNext
+pub ex_says : Says Ex SomeNext
 unfolding node_value
 ex_says m G f g r q s h level t = next_reaches_lem m.states m.transitions G f level s h
 
-pub ax_says : Says AX EveryNext
+pub ax_says : Says Ax EveryNext
 ax_says m G f g r q s h level t = subst (λ (v : ℕ). (level ≤ v) ↔ EveryNext m.transitions s (λ (t : ℕ). level ≤ at f t)) (sym (next_value m G true f [] r.small s h)) (next_every m.states m.transitions G f level s h)
 
-pub ef_says : Says EF SomeHas
+pub ef_says : Says Ef SomeHas
 unfolding node_value
 ef_says m G f g r q s h level t = some_has m.states m.transitions G f level s t h
 
-pub af_says : Says AF EveryHas
+pub af_says : Says Af EveryHas
 unfolding node_value
 af_says m G f g r q s h level t = every_has m.states m.transitions G f level s t h
 
-pub eg_says : Says EG SomeKeeps
+pub eg_says : Says Eg SomeKeeps
 unfolding node_value
 eg_says m G f g r q s h level t = some_keeps m.states m.transitions G f level s t h
 
-pub ag_says : Says AG EveryKeeps
+pub ag_says : Says Ag EveryKeeps
 unfolding node_value
 ag_says m G f g r q s h level t = every_keeps m.states m.transitions G f level s t h
 
 -- not EX not and its like, as the clauses have them
-pub ax_dual : Dual AX EX
+pub ax_dual : Dual Ax Ex
 unfolding node_value
 ax_dual m G f g r q s h = refl
 
 pub always_dual : (all : Bool) → Dual (always_of all) (eventually_of all)
 always_dual all m G f g r q s h = always_value m G all f g s ∙ ap neg (sym (eventually_value m G all (opposite m.states f) (opposite m.states g) s))
 
-pub or_dual : Dual OR AND
+pub or_dual : Dual Or And
 unfolding node_value
 or_dual m G f g r q s h =
     let a = opposite_at m.states m.transitions G f s h in
@@ -169,18 +170,18 @@ dual_back op other dual few m G f g r q s h =
     let l = few m G f g r q s h in
     omega arith
 
-pub ex_dual : Dual EX AX
+pub ex_dual : Dual Ex Ax
 unfolding node_value
-ex_dual = dual_back AX EX ax_dual (λ m G f g r q s h. next_small m.states m.transitions G false f r.small s)
+ex_dual = dual_back Ax Ex ax_dual (λ m G f g r q s h. next_small m.states m.transitions G false f r.small s)
 
 pub eventually_dual : (all : Bool) → Dual (eventually_of all) (always_of all)
 eventually_dual all = dual_back (always_of all) (eventually_of all) (always_dual all) (λ m G f g r q s h. let e = eventually_value m G all f g s in let l = eventually_small m.states m.transitions G all f r.small s h in omega arith)
 
-pub and_dual : Dual AND OR
+pub and_dual : Dual And Or
 unfolding node_value
-and_dual = dual_back OR AND or_dual (λ m G f g r q s h. let l = r.small s in omega arith)
+and_dual = dual_back Or And or_dual (λ m G f g r q s h. let l = r.small s in omega arith)
 
 -- implies is (not left) or right
-pub implies_or_lem : OnRows (λ m f g s. of_two m IMPLIES f g s ≡ of_two m OR (opposite m.states f) g s)
+pub implies_or_lem : OnRows (λ m f g s. of_two m Implies f g s ≡ of_two m Or (opposite m.states f) g s)
 unfolding node_value
 implies_or_lem m G f g r q s h = ap (λ (v : ℕ). max v (at g s)) (sym (opposite_at m.states m.transitions G f s h))

@@ -8,7 +8,9 @@ use native.Mathlib.Omega.{arith}
 use lib.ListN.{length, get_or, length-append}
 use Rattle.model.specs.Labels.{with_labels}
 use Rattle.model.specs.Model.{Model, node_count}
-use Rattle.model.specs.Kinds.{AF, AG, AND, ATOM, AU, AX, EF, EG, EU, EX, IMPLIES, Kind, NOT, OR, TRUE, kind_of}
+use Rattle.model.specs.Kinds.{kind_of}
+use Rattle.model.specs.declared.kinds.Kind.{Kind}
+use Rattle.model.specs.declared.kinds.Kind.TheVariants.{Af, Ag, And, Atom, Au, Ax, Ef, Eg, Eu, Ex, Implies, Not, Or, True}
 use Rattle.kripke.specs.Until.{everywhere, opposite, until}
 use Rattle.ctl.specs.Nodes.{node_row, node_value}
 use Rattle.ctl.specs.Rows.{model_verdict, rows_from, rows_of}
@@ -62,20 +64,20 @@ module _ (Rel : ℕ → ℕ → Type 0) (K : Kleene Rel) where
   module _ (m : Model) (labels' : List ℕ) (lab : (i : ℕ) → Rel (at m.labels i) (at labels' i)) where
     pub node_related : (k : Kind) (a : ℕ) (L M R Q : List ℕ) → RowRelated Rel K.kept L M → RowRelated Rel K.kept R Q → (s : ℕ) → Rel (node_value m k a L R s) (node_value (with_labels m labels') k a M Q s)
     unfolding node_value
-    node_related TRUE a L M R Q l r s = K.true_true
-    node_related ATOM a L M R Q l r s = lab (s * m.atoms + a)
-    node_related NOT a L M R Q l r s = K.turned (at L s) (at M s) (l s)
-    node_related AND a L M R Q l r s = K.kept.least (at L s) (at M s) (at R s) (at Q s) (l s) (r s)
-    node_related EX a L M R Q l r s = next_related Rel K.kept false m.transitions L M l s
-    node_related EU a L M R Q l r s = until_related Rel K.kept false m.transitions L M R Q l r m.states s
-    node_related AU a L M R Q l r s = until_related Rel K.kept true m.transitions L M R Q l r m.states s
-    node_related OR a L M R Q l r s = K.kept.greatest (at L s) (at M s) (at R s) (at Q s) (l s) (r s)
-    node_related IMPLIES a L M R Q l r s = K.kept.greatest (neg (at L s)) (neg (at M s)) (at R s) (at Q s) (K.turned (at L s) (at M s) (l s)) (r s)
-    node_related AX a L M R Q l r s = K.turned _ _ (next_related Rel K.kept false m.transitions _ _ (opposite_related m.states L M l) s)
-    node_related EF a L M R Q l r s = eventually_related false m.transitions m.states L M l s
-    node_related AF a L M R Q l r s = eventually_related true m.transitions m.states L M l s
-    node_related EG a L M R Q l r s = K.turned _ _ (eventually_related true m.transitions m.states _ _ (opposite_related m.states L M l) s)
-    node_related AG a L M R Q l r s = K.turned _ _ (eventually_related false m.transitions m.states _ _ (opposite_related m.states L M l) s)
+    node_related True a L M R Q l r s = K.true_true
+    node_related Atom a L M R Q l r s = lab (s * m.atoms + a)
+    node_related Not a L M R Q l r s = K.turned (at L s) (at M s) (l s)
+    node_related And a L M R Q l r s = K.kept.least (at L s) (at M s) (at R s) (at Q s) (l s) (r s)
+    node_related Ex a L M R Q l r s = next_related Rel K.kept false m.transitions L M l s
+    node_related Eu a L M R Q l r s = until_related Rel K.kept false m.transitions L M R Q l r m.states s
+    node_related Au a L M R Q l r s = until_related Rel K.kept true m.transitions L M R Q l r m.states s
+    node_related Or a L M R Q l r s = K.kept.greatest (at L s) (at M s) (at R s) (at Q s) (l s) (r s)
+    node_related Implies a L M R Q l r s = K.kept.greatest (neg (at L s)) (neg (at M s)) (at R s) (at Q s) (K.turned (at L s) (at M s) (l s)) (r s)
+    node_related Ax a L M R Q l r s = K.turned _ _ (next_related Rel K.kept false m.transitions _ _ (opposite_related m.states L M l) s)
+    node_related Ef a L M R Q l r s = eventually_related false m.transitions m.states L M l s
+    node_related Af a L M R Q l r s = eventually_related true m.transitions m.states L M l s
+    node_related Eg a L M R Q l r s = K.turned _ _ (eventually_related true m.transitions m.states _ _ (opposite_related m.states L M l) s)
+    node_related Ag a L M R Q l r s = K.turned _ _ (eventually_related false m.transitions m.states _ _ (opposite_related m.states L M l) s)
 
     rows_from_lem : (xs ys : List (List ℕ)) → RowsRelated xs ys → (ns : List ℕ) → RowsRelated (rows_from m xs ns) (rows_from (with_labels m labels') ys ns)
     unfolding rows_from node_row

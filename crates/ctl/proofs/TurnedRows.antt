@@ -1,4 +1,4 @@
--- Rows written with document 003's equations: true on the left of an until, and not before and after.
+-- Rows written with the equations of the kinds beside E and A: true on the left of an until, and not before and after.
 use mathlib.Core.Path.{◌≡◌, refl, ap, ◌∙◌}
 use Prim.Native.Nat.{ℕ, ◌-◌}
 use mathlib.Core.List.{List, ◌++◌}

@@ -1,14 +1,16 @@
 -- What the private functions ask of one another; no promise of a public call cites these.
-use Rattle.std.specs.Prelude.{◌≡◌, ℕ, ◌+◌, ◌*◌, ◌-◌, ◌<◌, ◌≤◌, min, max, List, [], Bool, cond, false, length, ltb}
+use Rattle.std.specs.Prelude.{◌≡◌, ℕ, ◌+◌, ◌*◌, ◌-◌, ◌<◌, ◌≤◌, List, [], Bool, cond, false, length, ltb}
 use Rattle.lists.specs.Entries.{Some, at}
-use Rattle.lists.specs.Rows.{fill, laid}
+use Rattle.lists.specs.Rows.{Filled, fill, laid}
+use Rattle.values.specs.Answers.{verdict}
+use Rattle.values.specs.declared.verdict.Verdict.{Verdict}
 use Rattle.values.specs.Limits.{most_states}
-use Rattle.values.specs.Values.{top, neg}
+use Rattle.values.specs.Values.{top}
 use Rattle.values.specs.Rows.{row_size, row_begin, row_in, row_values, stored_row, bad_row}
 use Rattle.kripke.specs.Until.{next, step}
 use Rattle.kripke.specs.Inside.{Ready}
 use Rattle.model.specs.Model.{Model, as_model, node_count, kind_at, left_at, right_at}
-use Rattle.model.specs.Kinds.{Kind, TRUE, ATOM, NOT, AND, EX, EU, AU, OR, IMPLIES, AX, EF, AF, EG, AG, kind_of}
+use Rattle.model.specs.Kinds.{kind_of}
 use Rattle.model.specs.Inside.{AtomFits, NodesFit}
 use Rattle.ctl.specs.Nodes.{node_row}
 use Rattle.ctl.specs.Rows.{initial_states, rows_from, stored_rows}
@@ -16,12 +18,6 @@ use Rattle.ctl.specs.Rows.{initial_states, rows_from, stored_rows}
 -- what a node's row goes by: a model without its initial list and its nodes
 abbrev pub structure_of : ℕ → ℕ → List ℕ → List ℕ → Model
 structure_of S A labels es = as_model S A labels [] es []
-
--- a graph with its beginnings, and two rows with a value for each state
-pub record Rounds (S : ℕ) (es begins left right : List ℕ) : Type 0 where
-  pub tables : Ready S es begins
-  pub left_room : S ≤ length left
-  pub right_room : S ≤ length right
 
 -- one step back from a row
 unfoldable pub stepped : Bool → List ℕ → List ℕ → List ℕ → List ℕ → ℕ → ℕ
@@ -37,10 +33,9 @@ pub record RowsFit (S i : ℕ) (space : List ℕ) : Type 0 where
   pub within : row_begin S i ≤ length space
   pub stand : (k : ℕ) → k < i → bad_row S (row_in S space k) ≡ false
 
--- the values of an operand's row, each in its place, in a space of the most states
-pub record OperandRead (S : ℕ) (space : List ℕ) (i k : ℕ) (values : List ℕ) : Type 0 where
-  pub long : length values ≡ most_states
-  pub here : (s : ℕ) → at values s ≡ at (operand_row S space i k) s
+-- the values of an operand's row, each in its place
+abbrev pub OperandRead : ℕ → List ℕ → ℕ → ℕ → List ℕ → Type 0
+OperandRead S space i k values = (s : ℕ) → at values s ≡ at (operand_row S space i k) s
 
 -- a model that judging works on: its tables, as many labels as states times atoms, each at most 2
 pub record Judgeable (m : Model) (begins : List ℕ) : Type 0 where
@@ -49,29 +44,16 @@ pub record Judgeable (m : Model) (begins : List ℕ) : Type 0 where
   pub small : (i : ℕ) → at m.labels i ≤ top
 
 -- node i can be judged into a space that holds the rows before it and has room for its own
-pub record NodeReady (m : Model) (begins ns : List ℕ) (i : ℕ) (space : List ℕ) : Type 0 where
-  pub judgeable : Judgeable m begins
+pub record NodeReady (m : Model) (ns : List ℕ) (i : ℕ) (space : List ℕ) : Type 0 where
   pub listed : i < node_count ns
   pub atom : AtomFits m.atoms (kind_at ns i) (left_at ns i)
   pub rows : RowsFit m.states i space
   pub room : row_begin m.states i + row_size m.states ≤ length space
 
--- the value of a kind that goes by its operands' values at the same state
-unfoldable pub plain_value : Kind → ℕ → ℕ → ℕ
-plain_value TRUE l r = top
-plain_value ATOM l r = top
-plain_value NOT l r = neg l
-plain_value AND l r = min l r
-plain_value EX l r = top
-plain_value EU l r = top
-plain_value AU l r = top
-plain_value OR l r = max l r
-plain_value IMPLIES l r = max (neg l) r
-plain_value AX l r = top
-plain_value EF l r = top
-plain_value AF l r = top
-plain_value EG l r = top
-plain_value AG l r = top
+-- at each of S states a value that R says of both rows' values there, and the rest as it was
+pub record Made (R : Verdict → Verdict → Verdict → Type 0) (S : ℕ) (left right before after : List ℕ) : Type 0 where
+  pub each : (s : ℕ) → s < S → R (verdict (at left s)) (verdict (at right s)) (verdict (at after s))
+  pub rest : Filled (at after) S before after
 
 -- the row of node i, from the rows that stand in the space
 unfoldable pub node_row_at : Model → List ℕ → List ℕ → ℕ → List ℕ
@@ -86,8 +68,7 @@ abbrev pub NodePut : Model → List ℕ → ℕ → List ℕ → List ℕ → Ty
 NodePut m ns i before after = RowPut m.states i (node_row_at m ns before i) before after
 
 -- all nodes can be judged into a space that has room for their rows
-pub record RowsReady (m : Model) (begins ns space : List ℕ) : Type 0 where
-  pub judgeable : Judgeable m begins
+pub record RowsReady (m : Model) (ns space : List ℕ) : Type 0 where
   pub nodes : NodesFit m.atoms ns
   pub room : row_begin m.states (node_count ns) ≤ length space
 

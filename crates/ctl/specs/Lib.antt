@@ -3,3 +3,4 @@ pub mod Rows
 pub mod Answers
 pub mod Inside
 pub mod Operators
+pub mod Lent

@@ -5,7 +5,7 @@ use Rattle.values.specs.Values.{top, neg}
 use Rattle.kripke.specs.Transitions.{Edge, Graph}
 use Rattle.kripke.specs.Until.{opposite}
 use Rattle.model.specs.Model.{Model}
-use Rattle.model.specs.Kinds.{Kind}
+use Rattle.model.specs.declared.kinds.Kind.{Kind}
 use Rattle.ctl.specs.Nodes.{node_value, node_row}
 
 -- the value at a state of a kind with two operands, and of one with one; a left number counts for atoms alone

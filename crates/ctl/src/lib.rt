@@ -12,15 +12,13 @@ mod until;
 ghost use Rattle.model.specs.Model.{as_model};
 ghost use Rattle.ctl.specs.Answers.{Judging};
 
+use kripke::lent::Graph;
+use nodes::Structure;
+use values::refusal::Refusal;
 use values::verdict::Verdict;
 
-// The rows stand in the verdict space and this is the model's verdict, or judging is refused with this number.
-#[derive(Clone, Copy)]
-pub enum Judged {
-    Verdicts(Verdict),
-    Refused(u8),
-}
-
+// kept: the tables one by one, as the C interface lends them
+// The rows stand in the verdict space and this is the model's verdict, or judging is refused and the space stays.
 pub fn judge(
     states: usize,
     atoms: usize,
@@ -29,22 +27,21 @@ pub fn judge(
     transitions: &[u16],
     nodes: &[u16],
     verdicts: &mut [u8],
-) -> Judged
+) -> Result<Verdict, Refusal>
     ensures { Judging (as_model states atoms labels.now initial.now transitions.now nodes.now) verdicts.old verdicts.new result }
 {
     let room = verdicts.len();
-    let model = model::examine(states, atoms, labels, initial, transitions, nodes, room);
-    if model.refusal != 0 {
-        return Judged::Refused(model.refusal);
-    }
-    rows::put_rows(
+    let table = model::examine(states, atoms, labels, initial, transitions, nodes, room)?;
+    let graph = Graph {
         states,
+        transitions,
+        begins: &table.begins,
+    };
+    let structure = Structure {
+        graph,
         atoms,
         labels,
-        transitions,
-        &model.begins,
-        nodes,
-        verdicts,
-    );
-    Judged::Verdicts(rows::model_verdict(states, initial, nodes, verdicts))
+    };
+    rows::put_rows(&structure, nodes, verdicts);
+    Ok(rows::model_verdict(states, initial, nodes, verdicts))
 }

@@ -5,7 +5,10 @@ ghost use Rattle.values.specs.Answers.{verdict};
 ghost use Rattle.model.specs.Model.{node_count};
 ghost use Rattle.ctl.specs.Rows.{over_initial};
 ghost use Rattle.ctl.specs.Inside as inside;
+ghost use Rattle.ctl.specs.Lent.{model_of};
 
+use crate::nodes::Structure;
+use model::kinds::Kind;
 use values::limits::MOST_STATES;
 use values::rows::Row;
 use values::verdict::Verdict;
@@ -17,17 +20,17 @@ fn operand(states: usize, verdicts: &[u8], i: usize, k: usize) -> Row
 {
     if i <= k {
         return Row {
-            valid: false,
             values: [0u8; MOST_STATES],
         };
     }
     let size = values::rows::row_size(states);
     let begin = k * size;
     let end = begin + size;
-    values::rows::read_row(states, &verdicts[begin..end])
+    values::rows::read_row(states, &verdicts[begin..end]).unwrap()
 }
 
 // A finished row becomes row i of the verdict space.
+// kept: a named form, the row copier over a lent part of the verdict space
 fn put_row(states: usize, row: &[u8], i: usize, verdicts: &mut [u8])
     requires { (states ≤ length row.now) × (row_begin states i + row_size states ≤ length verdicts.old) }
     ensures { inside.RowPut states i (take states row.now) verdicts.old verdicts.new }
@@ -37,67 +40,28 @@ fn put_row(states: usize, row: &[u8], i: usize, verdicts: &mut [u8])
 }
 
 // The row of node i, from the rows before it.
-fn put_node(
-    states: usize,
-    atoms: usize,
-    labels: &[u8],
-    transitions: &[u16],
-    begins: &[u16],
-    nodes: &[u16],
-    i: usize,
-    verdicts: &mut [u8],
-)
-    requires { inside.NodeReady (inside.structure_of states atoms labels.now transitions.now) begins.now nodes.now i verdicts.old }
-    ensures { inside.NodePut (inside.structure_of states atoms labels.now transitions.now) nodes.now i verdicts.old verdicts.new }
+fn put_node(structure: &Structure, nodes: &[u16], i: usize, verdicts: &mut [u8])
+    requires { inside.NodeReady (model_of structure.now) nodes.now i verdicts.old }
+    ensures { inside.NodePut (model_of structure.now) nodes.now i verdicts.old verdicts.new }
 {
-    let kind = nodes[3 * i];
+    let states = structure.graph.states;
+    let kind = Kind::of(nodes[3 * i]).unwrap_or(Kind::True);
     let number = nodes[3 * i + 1] as usize;
     let other = nodes[3 * i + 2] as usize;
     let left = operand(states, verdicts, i, number);
     let right = operand(states, verdicts, i, other);
     let mut row = [0u8; MOST_STATES];
-    crate::nodes::node_row(
-        states,
-        atoms,
-        labels,
-        transitions,
-        begins,
-        kind,
-        number,
-        &left.values,
-        &right.values,
-        &mut row,
-    );
+    structure.node_row(kind, number, &left.values, &right.values, &mut row);
     put_row(states, &row, i, verdicts);
 }
 
 // The rows of all nodes, one after the other.
-pub(crate) fn put_rows(
-    states: usize,
-    atoms: usize,
-    labels: &[u8],
-    transitions: &[u16],
-    begins: &[u16],
-    nodes: &[u16],
-    verdicts: &mut [u8],
-)
-    requires { inside.RowsReady (inside.structure_of states atoms labels.now transitions.now) begins.now nodes.now verdicts.old }
-    ensures { inside.RowsPut (inside.structure_of states atoms labels.now transitions.now) nodes.now verdicts.old verdicts.new }
+pub(crate) fn put_rows(structure: &Structure, nodes: &[u16], verdicts: &mut [u8])
+    requires { inside.RowsReady (model_of structure.now) nodes.now verdicts.old }
+    ensures { inside.RowsPut (model_of structure.now) nodes.now verdicts.old verdicts.new }
 {
-    let n = nodes.len() / 3;
-    let mut i: usize = 0;
-    while i < n {
-        put_node(
-            states,
-            atoms,
-            labels,
-            transitions,
-            begins,
-            nodes,
-            i,
-            verdicts,
-        );
-        i += 1;
+    for i in 0..nodes.len() / 3 {
+        put_node(structure, nodes, i, verdicts);
     }
 }
 
@@ -107,12 +71,10 @@ fn over_initial(states: usize, initial: &[u8], row: &[u8]) -> Verdict
     ensures { result ≡ verdict (over_initial states initial.now row.now) }
 {
     let mut found = Verdict::TRUE;
-    let mut s: usize = 0;
-    while s < states {
+    for s in 0..states {
         if initial[s] == 1 {
             found = found.and(Verdict(row[s]));
         }
-        s += 1;
     }
     found
 }

@@ -1,164 +1,99 @@
 // E and A by rounds of one step back, each one pass over the transitions.
-ghost use Rattle.std.specs.Prelude.{◌≡◌, map, false, ℕ, ◌-◌, ◌<◌, ◌≤◌, length};
-ghost use Rattle.lists.specs.Entries.{at, All};
+ghost use Rattle.std.specs.Prelude.{◌≡◌, false, ◌<◌};
+ghost use Rattle.lists.specs.Entries.{at};
 ghost use Rattle.lists.specs.Rows.{Filled};
-ghost use Rattle.lists.specs.Choosing.{best};
 ghost use Rattle.values.specs.Values.{choose};
-ghost use Rattle.kripke.specs.Transitions.{count, ends};
 ghost use Rattle.kripke.specs.Until.{next, until};
 ghost use Rattle.values.specs.Answers.{verdict};
-ghost use Rattle.kripke.specs.Inside.{Ready};
-ghost use Rattle.ctl.specs.Inside.{Rounds, stepped};
 
+use kripke::lent::Graph;
 use values::limits::MOST_STATES;
 use values::verdict::Verdict;
 
+// An until's operands, and whether it asks of all paths.
+#[derive(Clone, Copy)]
+pub(crate) struct Until<'a> {
+    pub(crate) graph: Graph<'a>,
+    pub(crate) left: &'a [u8; MOST_STATES],
+    pub(crate) right: &'a [u8; MOST_STATES],
+    pub(crate) all: bool,
+}
+
 // The greater of two verdicts, or, for "all", the smaller.
+// kept: the walk's quantifier as a bool, since the meaning of an until takes it so and one law holds for both
 fn chosen(all: bool, a: Verdict, b: Verdict) -> Verdict
     ensures { result ≡ verdict (choose all a.0 b.0) }
 {
-    if all {
-        return a.and(b);
-    }
-    a.or(b)
+    if all { a.and(b) } else { a.or(b) }
 }
 
-// The best of a row over where the transitions from begin to end lead.
-fn best_end(transitions: &[u16], row: &[u8], begin: usize, end: usize, all: bool) -> Verdict
-    requires { (begin < end) × (end ≤ count transitions.now) × All (λ (t : ℕ). t < length row.now) transitions.now }
-    ensures { result ≡ verdict (best (choose all) (map (at row.now) (ends transitions.now begin (end - begin)))) }
+// The best of a row over a state's successors.
+// kept: all as a bool, for the reason that `chosen` has.
+pub(crate) fn next_at(graph: &Graph, row: &[u8; MOST_STATES], all: bool, s: usize) -> Verdict
+    ensures { result ≡ verdict (next all graph.now.transitions.now row.now s) }
 {
-    let first = transitions[2 * begin + 1] as usize;
+    let mut ends = graph.successors(s);
+    let Some(first) = ends.next() else {
+        return Verdict::FALSE;
+    };
     let mut best = Verdict(row[first]);
-    let mut k = begin + 1;
-    while k < end {
-        let t = transitions[2 * k + 1] as usize;
+    for t in ends {
         best = chosen(all, best, Verdict(row[t]));
-        k += 1;
     }
     best
 }
 
-// The best of a row over a state's successors.
-pub(crate) fn next_at(
-    states: usize,
-    transitions: &[u16],
-    begins: &[u16],
-    row: &[u8],
-    all: bool,
-    s: usize,
-) -> Verdict
-    requires { Ready states transitions.now begins.now × (states ≤ length row.now) × (s < states) }
-    ensures { result ≡ verdict (next all transitions.now row.now s) }
-{
-    let begin = begins[s] as usize;
-    let end = begins[s + 1] as usize;
-    best_end(transitions, row, begin, end, all)
-}
-
-// One step back at a state: its right value, or its left value and the best that comes next.
-fn step_at(
-    states: usize,
-    transitions: &[u16],
-    begins: &[u16],
-    left: &[u8],
-    right: &[u8],
-    all: bool,
-    row: &[u8],
-    s: usize,
-) -> Verdict
-    requires { Rounds states transitions.now begins.now left.now right.now × (states ≤ length row.now) × (s < states) }
-    ensures { result ≡ verdict (stepped all transitions.now left.now right.now row.now s) }
-{
-    let next = next_at(states, transitions, begins, row, all, s);
-    Verdict(right[s]).or(Verdict(left[s]).and(next))
-}
-
-// One round: one step back from the last round's row at each state.
-fn round(
-    states: usize,
-    transitions: &[u16],
-    begins: &[u16],
-    left: &[u8],
-    right: &[u8],
-    all: bool,
-    row: &[u8],
-    out: &mut [u8],
-)
-    requires { Rounds states transitions.now begins.now left.now right.now × (states ≤ length row.now) × (states ≤ length out.old) }
-    ensures { Filled (stepped all transitions.now left.now right.now row.now) states out.old out.new }
-{
-    let mut s: usize = 0;
-    while s < states {
-        let value = step_at(states, transitions, begins, left, right, all, row, s);
-        out[s] = value.number();
-        s += 1;
-    }
-}
-
 // Copies the first values of a row and says whether that changed anything.
-fn take_row(states: usize, source: &[u8], row: &mut [u8]) -> bool
-    requires { (states ≤ length source.now) × (states ≤ length row.old) }
-    ensures { Filled (at source.now) states row.old row.new × (result ≡ false → row.new ≡ row.old) }
+fn take_row(graph: &Graph, source: &[u8; MOST_STATES], row: &mut [u8; MOST_STATES]) -> bool
+    ensures { Filled (at source.now) graph.now.states row.old row.new × (result ≡ false → row.new ≡ row.old) }
 {
-    let mut changed = false;
-    let mut s: usize = 0;
-    while s < states {
-        if source[s] != row[s] {
-            changed = true;
-        }
-        row[s] = source[s];
-        s += 1;
+    let states = graph.states;
+    if row[..states] == source[..states] {
+        return false;
     }
-    changed
+    row[..states].copy_from_slice(&source[..states]);
+    true
 }
 
-// A round with its copy: the row becomes the next one; whether that changed anything.
-fn advance(
-    states: usize,
-    transitions: &[u16],
-    begins: &[u16],
-    left: &[u8],
-    right: &[u8],
-    all: bool,
-    row: &mut [u8],
-) -> bool
-    requires { Rounds states transitions.now begins.now left.now right.now × (states ≤ length row.old) }
-    ensures { Filled (stepped all transitions.now left.now right.now row.old) states row.old row.new × (result ≡ false → row.new ≡ row.old) }
-{
-    let mut scratch = [0u8; MOST_STATES];
-    round(
-        states,
-        transitions,
-        begins,
-        left,
-        right,
-        all,
-        row,
-        &mut scratch,
-    );
-    take_row(states, &scratch, row)
-}
+impl<'a> Until<'a> {
+    ghost use Rattle.ctl.specs.Inside.{stepped};
 
-// The row of an until at the front of a space: rounds from the right row on, until one changes nothing.
-pub(crate) fn until_row(
-    states: usize,
-    transitions: &[u16],
-    begins: &[u16],
-    left: &[u8],
-    right: &[u8],
-    all: bool,
-    row: &mut [u8],
-)
-    requires { Rounds states transitions.now begins.now left.now right.now × (states ≤ length row.old) }
-    ensures { Filled (until all transitions.now left.now right.now states) states row.old row.new }
-{
-    take_row(states, right, row);
-    let mut k: usize = 1;
-    while k < states {
-        if !advance(states, transitions, begins, left, right, all, row) {
-            return;
+    // One step back at a state: its right value, or its left value and the best that comes next.
+    fn step_at(&self, row: &[u8; MOST_STATES], s: usize) -> Verdict
+        requires { s < self.now.graph.states }
+        ensures { result ≡ verdict (stepped self.now.all self.now.graph.transitions.now self.now.left.now self.now.right.now row.now s) }
+    {
+        let next = next_at(&self.graph, row, self.all, s);
+        Verdict(self.right[s]).or(Verdict(self.left[s]).and(next))
+    }
+
+    // One round: one step back from the last round's row at each state.
+    fn round(&self, row: &[u8; MOST_STATES], out: &mut [u8; MOST_STATES])
+        ensures { Filled (stepped self.now.all self.now.graph.transitions.now self.now.left.now self.now.right.now row.now) self.now.graph.states out.old out.new }
+    {
+        for s in 0..self.graph.states {
+            out[s] = self.step_at(row, s).number();
         }
-        k += 1;
+    }
+
+    // A round with its copy: the row becomes the next one; whether that changed anything.
+    fn advance(&self, row: &mut [u8; MOST_STATES]) -> bool
+        ensures { Filled (stepped self.now.all self.now.graph.transitions.now self.now.left.now self.now.right.now row.old) self.now.graph.states row.old row.new × (result ≡ false → row.new ≡ row.old) }
+    {
+        let mut scratch = [0u8; MOST_STATES];
+        self.round(row, &mut scratch);
+        take_row(&self.graph, &scratch, row)
+    }
+
+    // The row of the until at the front of a space: rounds from the right row on, until one changes nothing.
+    pub(crate) fn put(&self, row: &mut [u8; MOST_STATES])
+        ensures { Filled (until self.now.all self.now.graph.transitions.now self.now.left.now self.now.right.now self.now.graph.states) self.now.graph.states row.old row.new }
+    {
+        take_row(&self.graph, self.right, row);
+        for k in 1..self.graph.states {
+            if !self.advance(row) {
+                return;
+            }
+        }
     }
 }

@@ -8,7 +8,8 @@ use lib.ListN.{length}
 use lib.Dec.{eqb, ltb}
 use borrow.Author.Tests.{le-ltb, ltb-true, ltb-false, eqb-true, not-false}
 use Rattle.model.specs.Model.{Initial, Model, kind_at, left_at, node_count, right_at}
-use Rattle.model.specs.Kinds.{Kind, bound, kind_of, uses}
+use Rattle.model.specs.Kinds.{bound, kind_of, uses}
+use Rattle.model.specs.declared.kinds.Kind.{Kind}
 use Rattle.model.specs.Inside.{AtomFits, Fine, NodesFit}
 use Rattle.model.specs.Refusals.{bad_initial, bad_nodes, bad_operand, judge_refusal, label_causes, unnamed}
 use Rattle.lists.specs.Causes.{cause, refusal_of}

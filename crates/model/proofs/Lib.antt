@@ -4,3 +4,4 @@ pub mod KindLaws
 pub mod Lowest
 pub mod Fine
 pub mod Labels
+pub mod OneAnswer

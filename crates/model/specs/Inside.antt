@@ -1,37 +1,27 @@
 -- What the private functions of this crate ask of one another, and what a model has that is not refused; no promise of a public call cites these.
-use Rattle.std.specs.Prelude.{◌≡◌, ℕ, ◌*◌, ◌%◌, ◌<◌, ◌≤◌, List, cond, false, length, eqb}
+use Rattle.std.specs.Prelude.{◌≡◌, ℕ, ◌*◌, ◌%◌, ◌<◌, ◌≤◌, List, Bool, false, get_or, length}
 use Rattle.lists.specs.Entries.{at, any_below}
-use Rattle.lists.specs.Causes.{refusal_of}
-use Rattle.values.specs.Limits.{most_states, most_nodes}
+use Rattle.values.specs.Limits.{most_nodes}
 use Rattle.values.specs.Values.{top}
 use Rattle.values.specs.Rows.{row_begin}
 use Rattle.kripke.specs.Refusals.{table_refusal}
 use Rattle.model.specs.Model.{Initial, Model, node_count, kind_at, left_at}
-use Rattle.model.specs.Kinds.{ATOM, kind_of}
-use Rattle.model.specs.Refusals.{bad_operand, label_causes, names, node_causes, unnamed}
-
--- the number that the tables have is 1 where the state count is out of range
-abbrev pub TableNumber : ℕ → ℕ → Type 0
-TableNumber table S = (table ≡ 1 → ⊥) → S ≤ most_states
-
--- the lowest number that applies, given the one that the tables have
-unfoldable pub lowest_with : ℕ → ℕ → ℕ → List ℕ → List ℕ → List ℕ → ℕ → ℕ
-lowest_with table S A labels initial ns room =
-    let label : ℕ = refusal_of (label_causes S A labels initial) in
-    cond (eqb table 1) 1 (cond (eqb label 0) (cond (eqb table 0) (refusal_of (node_causes S A ns room)) table) label)
+use Rattle.model.specs.Kinds.{kind_of}
+use Rattle.model.specs.declared.kinds.Kind.TheVariants.{Atom}
+use Rattle.model.specs.Refusals.{bad_operand, names, unnamed}
 
 -- a node that names an atom names one of the model
 abbrev pub AtomFits : ℕ → ℕ → ℕ → Type 0
-AtomFits A kind a = kind_of kind ≡ ATOM → a < A
+AtomFits A kind a = kind_of kind ≡ Atom → a < A
 
 -- each node that names an atom names one of the model, and the list is of three numbers a node
 pub record NodesFit (A : ℕ) (ns : List ℕ) : Type 0 where
   pub triples : length ns % 3 ≡ 0
   pub atoms : (i : ℕ) → i < node_count ns → AtomFits A (kind_at ns i) (left_at ns i)
 
--- the marks after i nodes: 1 for an atom that one of them names, and otherwise 0
-pub record Marked (ns : List ℕ) (i : ℕ) (marks : List ℕ) : Type 0 where
-  pub each : (a : ℕ) → at marks a ≡ cond (any_below (names ns a) i) 1 0
+-- the marks after i nodes: an atom has one if one of them names it
+pub record Marked (ns : List ℕ) (i : ℕ) (marks : List Bool) : Type 0 where
+  pub each : (a : ℕ) → get_or marks a false ≡ any_below (names ns a) i
 
 -- what a model has that is not refused, with a verdict space of so many bytes
 pub record Fine (m : Model) (room : ℕ) : Type 0 where

@@ -2,5 +2,4 @@ pub mod Model
 pub mod Labels
 pub mod Kinds
 pub mod Refusals
-pub mod Answers
 pub mod Inside

@@ -1,26 +1,26 @@
 // A whole model: when it is refused, and where each state's transitions begin. What a model is stands in specs/.
 //
 //   refusals   the causes 2 to 5 and 10 to 13, and the lowest number of all
+//   kinds      the kinds of nodes, and their numbers
 //   naming     the cause 22: which atoms the nodes name
 #![tactic(auto)]
 
+pub mod kinds;
 mod naming;
 mod refusals;
 
 ghost use Rattle.std.specs.Prelude.{◌≡◌};
+ghost use Rattle.values.specs.Refusal.{Answers};
+ghost use Rattle.kripke.specs.Answers.{beginnings};
 ghost use Rattle.model.specs.Model.{as_model};
-ghost use Rattle.model.specs.Answers.{examined};
+ghost use Rattle.model.specs.Refusals.{judge_refusal};
 
-use values::limits::MOST_STATES;
+use kripke::graph::{Transitions, check_count, read_transitions};
+use refusals::{check_labels, check_nodes};
+use values::refusal::Refusal;
 
-// The lowest number of 1 to 13 and 22 that applies, or 0, and where each state's transitions begin, as kripke's reader has it.
-#[derive(Clone, Copy)]
-pub struct Examined {
-    pub refusal: u8,
-    pub begins: [u16; MOST_STATES + 1],
-}
-
-// For a verdict space of so many bytes; each table is looked at once.
+// kept: the tables one by one, as callers lend them, which may not change.
+// For a verdict space of so many bytes: where each state's transitions begin, or the refusal of lowest number that applies.
 pub fn examine(
     states: usize,
     atoms: usize,
@@ -29,11 +29,12 @@ pub fn examine(
     transitions: &[u16],
     nodes: &[u16],
     room: usize,
-) -> Examined
-    ensures { result ≡ examined (as_model states atoms labels.now initial.now transitions.now nodes.now) room }
+) -> Result<Transitions, Refusal>
+    ensures { Answers (judge_refusal (as_model states atoms labels.now initial.now transitions.now nodes.now) room) result (λ t. t.begins ≡ beginnings states transitions.now) }
 {
-    let table = kripke::graph::read_transitions(states, transitions);
-    let refusal = refusals::lowest(table.refusal, states, atoms, labels, initial, nodes, room);
-    let begins = table.begins;
-    Examined { refusal, begins }
+    check_count(states)?;
+    check_labels(states, atoms, labels, initial)?;
+    let table = read_transitions(states, transitions)?;
+    check_nodes(states, atoms, nodes, room)?;
+    Ok(table)
 }

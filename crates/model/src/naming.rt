@@ -6,20 +6,19 @@ ghost use Rattle.model.specs.Model.{node_count};
 ghost use Rattle.model.specs.Refusals.{unnamed};
 ghost use Rattle.model.specs.Inside.{NodesFit, Marked};
 
+use crate::kinds::Kind;
 use values::limits::MOST_ATOMS;
 
 // Marks the atoms that nodes name, in a row without a mark.
-fn mark_named(nodes: &[u16], marks: &mut [u8])
+// kept: a node is three numbers of the list, as the C interface lends it.
+fn mark_named(nodes: &[u16], marks: &mut [bool])
     requires { Marked nodes.now 0 marks.old × NodesFit (length marks.old) nodes.now }
     ensures { Marked nodes.now (node_count nodes.now) marks.new }
 {
-    let n = nodes.len() / 3;
-    let mut i: usize = 0;
-    while i < n {
-        if nodes[3 * i] == 1 {
-            marks[nodes[3 * i + 1] as usize] = 1;
+    for i in 0..nodes.len() / 3 {
+        if nodes[3 * i] == Kind::Atom.number() {
+            marks[nodes[3 * i + 1] as usize] = true;
         }
-        i += 1;
     }
 }
 
@@ -28,14 +27,7 @@ pub(crate) fn some_unnamed(atoms: usize, nodes: &[u16]) -> bool
     requires { (atoms ≤ most_atoms) × NodesFit atoms nodes.now }
     ensures { result ≡ any_below (unnamed nodes.now) atoms }
 {
-    let mut marks = [0u8; MOST_ATOMS];
+    let mut marks = [false; MOST_ATOMS];
     mark_named(nodes, &mut marks);
-    let mut a: usize = 0;
-    while a < atoms {
-        if marks[a] == 0 {
-            return true;
-        }
-        a += 1;
-    }
-    false
+    marks[..atoms].contains(&false)
 }

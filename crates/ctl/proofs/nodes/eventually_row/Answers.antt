@@ -1,11 +1,8 @@
 -- `eventually_row` meets its contract.
 use Rattle.values.specs.Limits.{most_states}
-use Rattle.model.specs.Kinds.{kind_of}
-use Rattle.ctl.specs.Inside.{plain_value}
 use Rattle.ctl.proofs.TurnedRows.{eventually_filled}
 use Rattle.ctl.proofs.nodes.eventually_row.Goals as goal
 
 pub returns : goal.returns
-unfolding kind_of plain_value
 returns c =
-    eventually_filled _ _ _ _ most_states _ _ _ c.plain_row.ensures c.until_row.ensures
+    eventually_filled _ _ _ _ most_states _ _ _ c.true_row.ensures c.until_row.ensures

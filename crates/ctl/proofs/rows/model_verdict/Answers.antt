@@ -6,9 +6,6 @@ use Rattle.ctl.proofs.Operands.{operand_small}
 use Rattle.ctl.proofs.OverInitial.{initial_same}
 use Rattle.ctl.proofs.rows.model_verdict.Goals as goal
 
-pub operand-last-requires : goal.operand-last-requires
-operand-last-requires c = c.requires.rows
-
 pub over_initial-requires : goal.over_initial-requires
 over_initial-requires c =
     let ready = c.requires in
@@ -16,9 +13,9 @@ over_initial-requires c =
     record {
       listed = ready.listed;
       some = ready.some;
-      room = omega (arith, ready.rows.few, read.long);
+      room = omega (arith, ready.rows.few);
       small = operand_small _ _ _ _ ready.rows (omega (arith, ready.last)) _ read;
     }
 
 pub returns : goal.returns
-returns c = c.over_initial.ensures ∙ ap verdict (initial_same _ _ _ _ c.operand-last.ensures.here)
+returns c = c.over_initial.ensures ∙ ap verdict (initial_same _ _ _ _ c.operand-last.ensures)

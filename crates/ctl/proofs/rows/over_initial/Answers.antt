@@ -9,22 +9,20 @@ use Rattle.ctl.proofs.rows.over_initial.Goals as goal
 use Rattle.ctl.proofs.rows.over_initial.Goals.{then-initial-s-eq1, else-initial-s-eq1}
 
 pub loop-s-init : goal.loop-s-init
-loop-s-init c = (omega arith, ap verdict (sym (smallest_none _ _)))
+loop-s-init c = ap verdict (sym (smallest_none _ _))
 
 pub loop-s-preserved : goal.loop-s-preserved
 loop-s-preserved c =
     let x = c.args in
-    let l = c.loop-s in (
-      omega arith,
-      elim c.if-initial-s-eq1.branch [
-        | then-initial-s-eq1 w ↦ w.found-is ∙ w.and-found.ensures ∙ ap verdict (ap (λ (v : ℕ). min v (at x.row.now l.s)) (λ i. (l.invariant.1 i).0) ∙ smallest_more x.initial.now x.row.now l.s w.if-initial-s-eq1.true)
-        | else-initial-s-eq1 w ↦ w.found-is ∙ l.invariant.1 ∙ ap verdict (smallest_other x.initial.now x.row.now l.s w.if-initial-s-eq1.false)
-      ],
-    )
+    let l = c.loop-s in
+    elim c.if-initial-s-eq1.branch [
+      | then-initial-s-eq1 w ↦ w.found-is ∙ w.and-found.ensures ∙ ap verdict (ap (λ (v : ℕ). min v (at x.row.now l.s)) (λ i. (l.invariant i).0) ∙ smallest_more x.initial.now x.row.now l.s w.if-initial-s-eq1.true)
+      | else-initial-s-eq1 w ↦ w.found-is ∙ l.invariant ∙ ap verdict (smallest_other x.initial.now x.row.now l.s w.if-initial-s-eq1.false)
+    ]
 
 pub returns : goal.returns
 returns c =
     let l = c.loop-s in
     let x = c.args in
     let last : l.s ≡ x.states = omega arith in
-    l.invariant.1 ∙ ap verdict (ap (smallest_so_far x.initial.now x.row.now) last ∙ smallest_whole x.initial.now x.row.now x.states c.requires)
+    l.invariant ∙ ap verdict (ap (smallest_so_far x.initial.now x.row.now) last ∙ smallest_whole x.initial.now x.row.now x.states c.requires)

@@ -16,9 +16,6 @@ begins c = begins_within c.args.states c.args.i c.row_size.result (length c.args
 pub overflow_mul-at : goal.overflow_mul-at
 overflow_mul-at c = omega (arith, begins c)
 
-pub slice_bounds-store_row-end : goal.slice_bounds-store_row-end
-slice_bounds-store_row-end c = sym (length-take-le _ _ c.requires.0)
-
 pub slice_bounds-store_row-count : goal.slice_bounds-store_row-count
 slice_bounds-store_row-count c = omega (arith, begins c)
 

@@ -8,5 +8,5 @@ use Rattle.ctl.proofs.until.chosen.Goals as goal
 pub returns-then-all : goal.returns-then-all
 returns-then-all c = c.and.ensures ∙ ap (λ (b : Bool). verdict (choose b c.args.a.0 c.args.b.0)) (sym c.if-all.true)
 
-pub returns : goal.returns
-returns c = c.or.ensures ∙ ap (λ (b : Bool). verdict (choose b c.args.a.0 c.args.b.0)) (sym c.if-all.false)
+pub returns-else-all : goal.returns-else-all
+returns-else-all c = c.or.ensures ∙ ap (λ (b : Bool). verdict (choose b c.args.a.0 c.args.b.0)) (sym c.if-all.false)
