@@ -1,11 +1,11 @@
 -- A path question's answer line by line: path after path, and how it ends; and what `write_line` promises of each line.
+use Rattle.std.specs.Prelude.{Some, None, Result, Ok, Err}
+use Rattle.values.specs.Refusal.{number_of}
+use Rattle.values.specs.declared.refusal.Refusal.{Refusal}
 use Rattle.std.specs.Prelude.{ℕ, zero, suc, ◌≡◌, List, [], ◌∷◌, ◌++◌, take, drop}
-use Rattle.paths.specs.declared.FirstAnswer.{FirstAnswer}
-use Rattle.paths.specs.declared.FirstAnswer.TheVariants as first
-use Rattle.paths.specs.declared.NextAnswer.{NextAnswer}
-use Rattle.paths.specs.declared.NextAnswer.TheVariants as next
 use Rattle.paths.specs.Questions.{Question}
-use Rattle.paths.specs.Answers.{FirstPromise, NextPromise}
+use Rattle.paths.specs.declared.Further.TheVariants.{Path, End}
+use Rattle.paths.specs.Answers.{FirstAnswer, FirstPromise, NextAnswer, NextPromise}
 use Rattle.answer.specs.Answers.{Due, number_due, path_due, LineWritten}
 use Rattle.answer.specs.Answers.Due.{line}
 use Rattle.listing.specs.declared.Call.{Call}
@@ -30,27 +30,27 @@ path_told zero n = told.More
 path_told (suc most) n = told.Path n
 
 -- what First's answer tells
-abbrev pub first_told : ℕ → FirstAnswer → Told
-first_told most (first.Path n) = path_told most n
-first_told most first.None = told.None
-first_told most (first.Refused number) = told.Refused number
+abbrev pub first_told : ℕ → FirstAnswer → Result Told Refusal
+first_told most (Ok (Some n)) = Ok (path_told most n)
+first_told most (Ok None) = Ok told.None
+first_told most (Err e) = Err e
 
 -- and Next's, lent n entries
-abbrev pub next_told : ℕ → ℕ → NextAnswer → Told
-next_told most n next.Path = path_told most n
-next_told most n next.End = told.End
-next_told most n (next.Refused number) = told.Refused number
+abbrev pub next_told : ℕ → ℕ → NextAnswer → Result Told Refusal
+next_told most n (Ok Path) = Ok (path_told most n)
+next_told most n (Ok End) = Ok told.End
+next_told most n (Err e) = Err e
 
 -- the line of what is told; a path is the first entries of the path space
-abbrev pub told_due : Told → List ℕ → Due
-told_due (told.Path n) space = path_due (take n space)
-told_due told.None space = line none_line
-told_due told.End space = line end_line
-told_due told.More space = line more_line
-told_due (told.Refused number) space = number_due number
+abbrev pub told_due : Result Told Refusal → List ℕ → Due
+told_due (Ok (told.Path n)) space = path_due (take n space)
+told_due (Ok told.None) space = line none_line
+told_due (Ok told.End) space = line end_line
+told_due (Ok told.More) space = line more_line
+told_due (Err e) space = number_due (number_of e)
 
 -- a call was lent the first n entries of the path space, or all where there are fewer, and kept its promise; the rest stays, and its answer is told
-pub record Called {A : Type 0} (promise : List ℕ → List ℕ → A → Type 0) (tells : A → Told) (n : ℕ) (before after : List ℕ) (told : Told) : Type 0 where
+pub record Called {A : Type 0} (promise : List ℕ → List ℕ → A → Type 0) (tells : A → Result Told Refusal) (n : ℕ) (before after : List ℕ) (told : Result Told Refusal) : Type 0 where
   pub answer : A
   pub part : List ℕ
   pub promised : promise (take n before) part answer
@@ -58,7 +58,7 @@ pub record Called {A : Type 0} (promise : List ℕ → List ℕ → A → Type 0
   pub says : told ≡ tells answer
 
 -- First from a start, lent its room, or Next, lent the path
-abbrev pub Calls : Question → ℕ → Call → List ℕ → List ℕ → Told → Type 0
+abbrev pub Calls : Question → ℕ → Call → List ℕ → List ℕ → Result Told Refusal → Type 0
 Calls q most (call.First start room) = Called (FirstPromise q start) (first_told most) room
 Calls q most (call.Next n) = Called (NextPromise q) (next_told most n) n
 

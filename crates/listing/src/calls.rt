@@ -5,13 +5,14 @@ ghost use Rattle.listing.specs.Answers.{path_told, first_told, next_told, Calls}
 ghost use Rattle.listing.specs.Inside.{Front};
 
 use crate::{Call, Told};
-use paths::{FirstAnswer, NextAnswer};
+use paths::Further;
+use values::refusal::Refusal;
 
 // How many entries are the first n of a path space: n, or all where there are fewer.
 pub(crate) fn front(n: usize, space: &[u16]) -> usize
     ensures { Front n space.now result }
 {
-    if n < space.len() { n } else { space.len() }
+    n.min(space.len())
 }
 
 // A path, or that there are more where none is to be listed any more.
@@ -24,27 +25,26 @@ fn path_told(most: usize, n: usize) -> Told
     Told::Path(n)
 }
 
-fn first_told(most: usize, answer: FirstAnswer) -> Told
+fn first_told(most: usize, answer: Result<Option<usize>, Refusal>) -> Result<Told, Refusal>
     ensures { result ≡ first_told most answer }
 {
-    match answer {
-        FirstAnswer::Path(n) => path_told(most, n),
-        FirstAnswer::None => Told::None,
-        FirstAnswer::Refused(number) => Told::Refused(number),
+    match answer? {
+        Some(n) => Ok(path_told(most, n)),
+        None => Ok(Told::None),
     }
 }
 
-fn next_told(most: usize, n: usize, answer: NextAnswer) -> Told
+fn next_told(most: usize, n: usize, answer: Result<Further, Refusal>) -> Result<Told, Refusal>
     ensures { result ≡ next_told most n answer }
 {
-    match answer {
-        NextAnswer::Path => path_told(most, n),
-        NextAnswer::End => Told::End,
-        NextAnswer::Refused(number) => Told::Refused(number),
+    match answer? {
+        Further::Path => Ok(path_told(most, n)),
+        Further::End => Ok(Told::End),
     }
 }
 
 // The call made on the front of the path space, and what it tells.
+// kept: a struct of the question would be filled by the one caller, only to be taken apart for the calls of `paths`
 pub(crate) fn ask(
     states: usize,
     transitions: &[u16],
@@ -54,7 +54,7 @@ pub(crate) fn ask(
     most: usize,
     call: Call,
     space: &mut [u16],
-) -> Told
+) -> Result<Told, Refusal>
     ensures { Calls (asked states transitions.now left.now right.now level) most call space.old space.new result }
 {
     match call {

@@ -6,7 +6,8 @@
 // specs/Answers says what `write_line` promises.
 #![tactic(auto)]
 
-use answer::Written;
+use answer::Unwritten;
+use values::refusal::Refusal;
 
 mod calls;
 mod lines;
@@ -26,7 +27,7 @@ pub enum Call {
 }
 
 // What a line tells. Only behind a path does the listing go on, with Next.
-#[derive(Clone, Copy)]
+#[derive(Clone, Copy, PartialEq, Eq, Debug)]
 pub enum Told {
     // A path of so many entries stands at the front of the path space.
     Path(usize),
@@ -36,18 +37,17 @@ pub enum Told {
     End,
     // There are more, and no more are to be listed.
     More,
-    // The number of a refusal.
-    Refused(u8),
 }
 
-// What is told, and what writing its line answered.
+// What is told, or the refusal, and how many bytes its line has, or why none was written.
 #[derive(Clone, Copy)]
 pub struct Listed {
-    pub told: Told,
-    pub line: Written,
+    pub told: Result<Told, Refusal>,
+    pub line: Result<usize, Unwritten>,
 }
 
 // One line of a path question's answer, at the front of the buffer: what the call tells, where so many paths are still to be listed at the most.
+// kept: the tables one by one, as callers lend them, which may not change.
 pub fn write_line(
     states: usize,
     transitions: &[u16],

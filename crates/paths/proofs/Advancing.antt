@@ -9,12 +9,11 @@ use native.Mathlib.Numerals.{add-one}
 use borrow.Rule.Slice.PartMut.{put_mid}
 use lib.ListN.{length, drop, take, length-drop, length-take, drop_of_length-le, get_or-append}
 use lib.Seq.{get_or-take, drop_at, length-take-le}
+use Rattle.std.specs.Prelude.{Option, Some, None}
 use Rattle.lists.specs.Entries.{at}
 use Rattle.lists.proofs.Numbers.{lt_or_le}
-use Rattle.kripke.specs.Transitions.{Graph}
-use Rattle.kripke.proofs.Successors.{edge_state}
 use Rattle.paths.specs.Inside.{Advanced, Below, Descended, Down, Greatest, Layers, Onto}
-use Rattle.paths.proofs.Fits.{Picked}
+use Rattle.paths.proofs.Fits.{Picked, pick_least, pick_none}
 use Rattle.paths.proofs.Places.{at_drop}
 
 module _ (es : List ℕ) (d : ℕ → ℕ) where
@@ -63,20 +62,20 @@ advancing_in {S} {es} {d} {p₀} {p} {i} l x w j h =
     (l.inside (at p j) (omega arith), y)
 
 -- the place j before i: the step that leads to i, what is picked beyond it, and that nothing behind it is larger
-record Stepped (S : ℕ) (es d p : List ℕ) (j u want : ℕ) : Type 0 where
+record Stepped (es d p : List ℕ) (j want : ℕ) (r : Option ℕ) : Type 0 where
   pub step : Below es (at d) (at p j) (at p (j + 1))
-  pub pick : Picked S es d (at p j) want (at p (j + 1) + 1) u
+  pub pick : Picked es d (at p j) want (at p (j + 1) + 1) r
   pub distance : at d (at p (j + 1)) ≡ want
   pub top : Greatest es (at d) (at p (j + 1)) (drop (j + 1 + 1) p)
 
-stepped : {S : ℕ} {es d p₀ p : List ℕ} {i u want : ℕ} (j : ℕ) → Advancing es (at d) p₀ p i → i ≡ j + 1 → Down es (at d) (at p₀ 0) (drop 1 p₀) → Picked S es d (at p j) want (at p i + 1) u → at d (at p i) ≡ want → Stepped S es d p j u want
-stepped {S} {es} {d} {p₀} {p} {i} {u} {want} j x e w k q =
+stepped : {es d p₀ p : List ℕ} {i want : ℕ} {r : Option ℕ} (j : ℕ) → Advancing es (at d) p₀ p i → i ≡ j + 1 → Down es (at d) (at p₀ 0) (drop 1 p₀) → Picked es d (at p j) want (at p i + 1) r → at d (at p i) ≡ want → Stepped es d p j want r
+stepped {es} {d} {p₀} {p} {i} {want} {r} j x e w k q =
     let here = x.here in
     record { step = down_step es (at d) p j (omega arith) (rw x.same w); pick = rw e at k; distance = rw e at q; top = rw e at x.top }
 
 -- no larger state at this place either
-pub advancing_step : {S : ℕ} {es d p₀ p : List ℕ} {i u want : ℕ} (j : ℕ) → Graph S es → Advancing es (at d) p₀ p i → i ≡ j + 1 → Down es (at d) (at p₀ 0) (drop 1 p₀) → Picked S es d (at p j) want (at p i + 1) u → at d (at p i) ≡ want → S ≤ u → Advancing es (at d) p₀ p j
-advancing_step {S} {es} {d} {p₀} {p} {i} {u} {want} j G x e w k q h =
+pub advancing_step : {es d p₀ p : List ℕ} {i want : ℕ} {r : Option ℕ} (j : ℕ) → Advancing es (at d) p₀ p i → i ≡ j + 1 → Down es (at d) (at p₀ 0) (drop 1 p₀) → Picked es d (at p j) want (at p i + 1) r → at d (at p i) ≡ want → r ≡ None → Advancing es (at d) p₀ p j
+advancing_step {es} {d} {p₀} {p} {i} {want} {r} j x e w k q h =
     let here = x.here in
     let y = stepped j x e w k q in
     record {
@@ -86,7 +85,7 @@ advancing_step {S} {es} {d} {p₀} {p} {i} {u} {want} j G x e w k q h =
       top = rw (at_drop p (j + 1) (omega arith)) (
         λ v b.
             ⊎_elim
-            (λ (l : at p (j + 1) < v). absurd (omega (arith, y.pick.least v b.0 (omega (arith, b.1, y.step.1, y.distance)) (omega arith), edge_state S es G (at p j) v b.0)))
+            (λ (l : at p (j + 1) < v). absurd (pick_none y.pick h v b.0 (omega (arith, b.1, y.step.1, y.distance)) (omega arith)))
             (λ (l : v ≤ at p (j + 1)). l)
             (lt_or_le (at p (j + 1)) v),
         y.top,
@@ -105,14 +104,14 @@ advancing_end {es} {d} {p₀} {p} {i} x h =
     }
 
 -- a larger state, and from there the smallest each time
-pub advancing_found : {S : ℕ} {es d p₀ p part after : List ℕ} {i u want : ℕ} (j : ℕ) → Advancing es (at d) p₀ p i → i ≡ j + 1 → Down es (at d) (at p₀ 0) (drop 1 p₀) → Picked S es d (at p j) want (at p i + 1) u → at d (at p i) ≡ want → u < S
+pub advancing_found : {es d p₀ p part after : List ℕ} {i u want : ℕ} {r : Option ℕ} (j : ℕ) → Advancing es (at d) p₀ p i → i ≡ j + 1 → Down es (at d) (at p₀ 0) (drop 1 p₀) → Picked es d (at p j) want (at p i + 1) r → at d (at p i) ≡ want → r ≡ Some u
     → Descended es (at d) u part → length after ≡ length p → after ≡ take i p ++ part → Advanced es (at d) p₀ after true
-advancing_found {S} {es} {d} {p₀} {p} {part} {after} {i} {u} {want} j x e w k q h f long is =
+advancing_found {es} {d} {p₀} {p} {part} {after} {i} {u} {want} {r} j x e w k q h f long is =
     let here = x.here in
     let front : length (take i p) ≡ i = length-take-le i p (omega arith) in
     let agree : (m : ℕ) → m ≤ j → at p m ≡ at after m = λ m l. rw (is, get_or-append (take i p) part 0 m (omega arith), get_or-take i p m 0 (omega arith)) in
     let y = stepped j x e w k q in
-    let one = y.pick.is_one h in
+    let one = y.pick.is_one u h in
     let rest : drop (j + 1) after ≡ u ∷ f.tail = rw (← e, is) (drop_at (take i p) part i front ∙ f.is) in
     record {
       size = long ∙ x.size;
@@ -120,7 +119,7 @@ advancing_found {S} {es} {d} {p₀} {p} {part} {after} {i} {u} {want} j x e w k 
       onto = λ z. rw (← x.same)
           (onto_from es (at d) p after j (omega arith) (omega arith) agree
           (rw (at_drop p (j + 1) (omega arith), rest)
-          (inr (y.top, (one.0, omega (arith, one.1, y.step.1, y.distance)), omega (arith, one.2), λ v b l. y.pick.least v b.0 (omega (arith, b.1, y.step.1, y.distance)) (omega arith), f.greedy))));
+          (inr (y.top, (one.0, omega (arith, one.1, y.step.1, y.distance)), omega (arith, one.2), λ v b l. pick_least y.pick h v b.0 (omega (arith, b.1, y.step.1, y.distance)) (omega arith), f.greedy))));
       top = λ z. absurd (true≢false z);
     }
 

@@ -14,8 +14,7 @@ use Rattle.lists.proofs.Search.{any_none}
 use Rattle.lists.proofs.Tests.{and_fails, and_holds, or_fails, or_left, or_neither}
 use Rattle.kripke.specs.Transitions.{Edge, succs}
 use Rattle.paths.specs.Questions.{From, Reaches}
-use Rattle.paths.specs.declared.faults.Fault.TheVariants.{Nowhere}
-use Rattle.paths.specs.Inside.{FaultFound, at_fault, has, unjoined}
+use Rattle.paths.specs.Inside.{Faultless, at_fault, has, unjoined}
 use Rattle.paths.proofs.Places.{from_back, from_last, from_place, from_step, last_from}
 use Rattle.paths.proofs.Scans.{has_edge, no_edge}
 
@@ -110,5 +109,5 @@ module _ (S : ℕ) (es : List ℕ) (L R : ℕ → ℕ) (level : ℕ) (p : List �
       last l = let s = from_last es (Reaches S level L) (Reaches S level R) p i l here in fault_right i s.0 (linked i refl) l ∙ le-ltb (R (at p i)) level s.1
 
 -- a list with no entry at fault begins with a state
-pub first_state : (S : ℕ) (es : List ℕ) (L R : ℕ → ℕ) (level : ℕ) (p : List ℕ) → FaultFound S es L R level p Nowhere → at p 0 < S
+pub first_state : (S : ℕ) (es : List ℕ) (L R : ℕ → ℕ) (level : ℕ) (p : List ℕ) → Faultless S es L R level p true → at p 0 < S
 first_state S es L R level p f = fine_state S es L R level p 0 (any_none (at_fault S es L R level p) (length p) f.1 0 f.0)

@@ -6,11 +6,12 @@ use native.Mathlib.Omega.{arith}
 use borrow.Author.Count.{below_more}
 use lib.ListN.{length, set, drop, length-set, drop_of_length-le}
 use lib.Seq.{get_or-set_same, get_or-set_other}
+use Rattle.std.specs.Prelude.{Option, Some}
+use Rattle.std.specs.Option.{IsSome}
 use Rattle.lists.specs.Entries.{at}
-use Rattle.kripke.specs.Transitions.{Graph}
-use Rattle.kripke.proofs.Successors.{edge_state}
-use Rattle.paths.specs.Inside.{Below, Descended, Greedy, Layers}
-use Rattle.paths.proofs.Fits.{Picked}
+use Rattle.kripke.specs.Transitions.{Graph, succs}
+use Rattle.paths.specs.Inside.{Below, Descended, Greedy, Layers, first_fit}
+use Rattle.paths.proofs.Fits.{Picked, pick_least, picked}
 use Rattle.paths.proofs.Places.{at_drop, whole}
 
 -- t is the smallest state below s
@@ -18,14 +19,15 @@ pub record Lowest (es : List ℕ) (d : ℕ → ℕ) (s t : ℕ) : Type 0 where
   pub below : Below es d s t
   pub least : (u : ℕ) → Below es d s u → t ≤ u
 
--- what is picked at the distance below, from 0 on
-pub picked_lowest : {S : ℕ} {es d : List ℕ} {s t want : ℕ} → Graph S es → Layers S es d → Picked S es d s want 0 t → at d s ≡ want + 1 → 0 < want → (t < S) × Lowest es (at d) s t
-picked_lowest {S} {es} {d} {s} {t} {want} G l p e h =
-    let x = l.next s (omega arith) in
-    let m = p.least x.0 x.1 (omega (arith, x.2)) (omega arith) in
-    let here : t < S = omega (arith, edge_state S es G s x.0 x.1) in
-    let o = p.is_one here in
-    (here, record { below = (o.0, omega (arith, o.1)); least = λ u b. p.least u b.0 (omega (arith, b.1)) (omega arith) })
+-- at the distance below there is one to pick, and it is the lowest
+pub lowest_there : {S : ℕ} {es d : List ℕ} {r : Option ℕ} (s want : ℕ) → Layers S es d → r ≡ first_fit d want 0 (succs es s) → at d s ≡ want + 1 → 0 < want → IsSome r
+lowest_there {d = d} s want l is e h = let wanted : at d s - 1 ≡ want = omega arith in rw (is, ← wanted) (l.next s (omega arith))
+
+pub picked_lowest : {S : ℕ} {es : List ℕ} {s t : ℕ} {r : Option ℕ} (d : List ℕ) (want : ℕ) → Graph S es → r ≡ first_fit d want 0 (succs es s) → r ≡ Some t → at d s ≡ want + 1 → Lowest es (at d) s t
+picked_lowest {S} {es} {s} {t} {r} d want G is some e =
+    let p : Picked es d s want 0 r = picked G is in
+    let o = p.is_one t some in
+    record { below = (o.0, omega (arith, o.1)); least = λ u b. pick_least p some u b.0 (omega (arith, b.1)) (omega arith) }
 
 -- i places of n are filled from u on, s being the last of them
 pub record Filling (es d : List ℕ) (u n : ℕ) (p : List ℕ) (s i : ℕ) : Type 0 where

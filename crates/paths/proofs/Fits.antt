@@ -8,13 +8,17 @@ use mathlib.Core.Logic.{◌⊎◌, inl, inr}
 use native.Mathlib.Omega.{arith}
 use lib.Dec.{eqb, leb, ltb}
 use borrow.Author.Tests.{eqb-true, leb-true, le-leb, eq-eqb, ltb-true}
+use Rattle.std.specs.Prelude.{Option, Some, None}
 use Rattle.lists.specs.Entries.{at, All}
 use Rattle.lists.proofs.Entries.{all_member}
 use Rattle.lists.proofs.Tests.{and_both, and_parts}
 use Rattle.kripke.specs.Transitions.{Ascending, Edge, Graph, succs}
 use Rattle.kripke.proofs.Begins.{ascending_tail}
-use Rattle.kripke.proofs.Successors.{edge_state, edge_succ, succ_edge, succs_states}
+use Rattle.kripke.proofs.Successors.{edge_succ, succ_edge}
 use Rattle.paths.specs.Inside.{first_fit}
+
+some_one : {t u : ℕ} → ◌≡◌ {A = Option ℕ} (Some t) (Some u) → t ≡ u
+some_one e = cc
 
 -- each entry is below all later ones
 abbrev pub Rises : List ℕ → Type 0
@@ -78,51 +82,48 @@ succs_rise (f ∷ t ∷ es) s asc = go (eqb f s) refl (succs_rise es s (ascendin
     go true q later = (above_all f t es s (precedes_all f t es asc) (eqb-true f s q), later)
     go false q later = later
 
-module _ (S : ℕ) (d : List ℕ) (want above : ℕ) where
-  fit_bound : (xs : List ℕ) → All (λ (t : ℕ). t < S) xs → first_fit S d want above xs ≤ S
-  unfolding first_fit
-  fit_bound [] a = omega arith
-  fit_bound (x ∷ xs) a = go (leb above x && eqb (at d x) want) (fit_bound xs a.1)
-    where
-      go : (b : Bool) → first_fit S d want above xs ≤ S → cond b x (first_fit S d want above xs) ≤ S
-      go true later = omega (arith, a.0)
-      go false later = later
+not_some : {t : ℕ} → ◌≡◌ {A = Option ℕ} None (Some t) → ⊥
+not_some e = cc
 
-  fit_is : (xs : List ℕ) → first_fit S d want above xs < S → Memᴰ (first_fit S d want above xs) xs × (at d (first_fit S d want above xs) ≡ want) × (above ≤ first_fit S d want above xs)
+module _ (d : List ℕ) (want above : ℕ) where
+  fit_is : (xs : List ℕ) (t : ℕ) → first_fit d want above xs ≡ Some t → Memᴰ t xs × (at d t ≡ want) × (above ≤ t)
   unfolding first_fit
-  fit_is [] h = absurd (omega arith)
-  fit_is (x ∷ xs) h = go (leb above x && eqb (at d x) want) refl h (fit_is xs)
+  fit_is [] t e = absurd (not_some e)
+  fit_is (x ∷ xs) t e = go (leb above x && eqb (at d x) want) refl e (fit_is xs t)
     where
-      go : (b : Bool) → (leb above x && eqb (at d x) want) ≡ b → cond b x (first_fit S d want above xs) < S → (first_fit S d want above xs < S → Memᴰ (first_fit S d want above xs) xs × (at d (first_fit S d want above xs) ≡ want) × (above ≤ first_fit S d want above xs))
-          → Memᴰ (cond b x (first_fit S d want above xs)) (x ∷ xs) × (at d (cond b x (first_fit S d want above xs)) ≡ want) × (above ≤ cond b x (first_fit S d want above xs))
-      go true q l rest = let p = and_parts _ _ q in (Memᴰ.head refl, eqb-true (at d x) want p.1, leb-true above x p.0)
+      go : (b : Bool) → (leb above x && eqb (at d x) want) ≡ b → cond b (Some x) (first_fit d want above xs) ≡ Some t → (first_fit d want above xs ≡ Some t → Memᴰ t xs × (at d t ≡ want) × (above ≤ t)) → Memᴰ t (x ∷ xs) × (at d t ≡ want) × (above ≤ t)
+      go true q l rest =
+          let p = and_parts _ _ q in
+          let same : x ≡ t = some_one l in
+          subst (λ (y : ℕ). Memᴰ y (x ∷ xs) × (at d y ≡ want) × (above ≤ y)) same (Memᴰ.head refl, eqb-true (at d x) want p.1, leb-true above x p.0)
       go false q l rest = let r = rest l in (Memᴰ.tail r.0, r.1, r.2)
 
-  fit_least : (xs : List ℕ) → Rises xs → (u : ℕ) → Memᴰ u xs → at d u ≡ want → above ≤ u → first_fit S d want above xs ≤ u
+  fit_least : (xs : List ℕ) → Rises xs → (u : ℕ) → Memᴰ u xs → at d u ≡ want → above ≤ u → (t : ℕ) × (first_fit d want above xs ≡ Some t) × (t ≤ u)
   unfolding first_fit
   fit_least [] r u m w a = absurd (Memᴰ.not-nil m)
   fit_least (x ∷ xs) r u m w a = go (leb above x && eqb (at d x) want) refl (Memᴰ.cases_cons m) (λ k. fit_least xs r.1 u k w a)
     where
-      go : (b : Bool) → (leb above x && eqb (at d x) want) ≡ b → (u ≡ x) ⊎ Memᴰ u xs → (Memᴰ u xs → first_fit S d want above xs ≤ u) → cond b x (first_fit S d want above xs) ≤ u
-      go true q (inl e) later = omega arith
-      go true q (inr k) later = omega (arith, all_member (λ (y : ℕ). x < y) xs r.0 u k)
+      go : (b : Bool) → (leb above x && eqb (at d x) want) ≡ b → (u ≡ x) ⊎ Memᴰ u xs → (Memᴰ u xs → (t : ℕ) × (first_fit d want above xs ≡ Some t) × (t ≤ u)) → (t : ℕ) × (cond b (Some x) (first_fit d want above xs) ≡ Some t) × (t ≤ u)
+      go true q (inl e) later = (x, refl, omega arith)
+      go true q (inr k) later = (x, refl, omega (arith, all_member (λ (y : ℕ). x < y) xs r.0 u k))
       go false q (inl e) later = absurd (true≢false (sym (and_both _ _ (le-leb above x (omega arith)) (eq-eqb (at d x) want (ap (at d) (sym e) ∙ w))) ∙ q))
       go false q (inr k) later = later k
 
--- what `pick` gives: the smallest successor of s with the distance that is wanted and not below `above`, or S for none
-pub record Picked (S : ℕ) (es d : List ℕ) (s want above r : ℕ) : Type 0 where
-  pub bound : r ≤ S
-  pub is_one : r < S → Edge es s r × (at d r ≡ want) × (above ≤ r)
-  pub least : (u : ℕ) → Edge es s u → at d u ≡ want → above ≤ u → r ≤ u
+-- what `pick` gives: the smallest successor of s with the distance that is wanted and not below `above`, or none where there is none
+pub record Picked (es d : List ℕ) (s want above : ℕ) (r : Option ℕ) : Type 0 where
+  pub is_one : (t : ℕ) → r ≡ Some t → Edge es s t × (at d t ≡ want) × (above ≤ t)
+  pub least : (u : ℕ) → Edge es s u → at d u ≡ want → above ≤ u → (t : ℕ) × (r ≡ Some t) × (t ≤ u)
 
-pub picked : {S : ℕ} {es d : List ℕ} {s want above r : ℕ} → Graph S es → r ≡ first_fit S d want above (succs es s) → Picked S es d s want above r
-picked {S} {es} {d} {s} {want} {above} {r} G e = subst (Picked S es d s want above) (sym e) (
+pub picked : {S : ℕ} {es d : List ℕ} {s want above : ℕ} {r : Option ℕ} → Graph S es → r ≡ first_fit d want above (succs es s) → Picked es d s want above r
+picked {S} {es} {d} {s} {want} {above} {r} G e = subst (Picked es d s want above) (sym e) (
     record {
-      bound = fit_bound S d want above (succs es s) (succs_states S es G s);
-      is_one = λ h. let p = fit_is S d want above (succs es s) h in (succ_edge es s (first_fit S d want above (succs es s)) p.0, p.1, p.2);
-      least = λ u m w a. fit_least S d want above (succs es s) (succs_rise es s G.ascending) u (edge_succ es s u m) w a;
+      is_one = λ t q. let p = fit_is d want above (succs es s) t q in (succ_edge es s t p.0, p.1, p.2);
+      least = λ u m w a. fit_least d want above (succs es s) (succs_rise es s G.ascending) u (edge_succ es s u m) w a;
     })
 
--- where it gives S, no successor fits
-pub pick_none : {S : ℕ} {es d : List ℕ} {s want r : ℕ} → Graph S es → Picked S es d s want 0 r → r ≡ S → (t : ℕ) → Edge es s t → at d t ≡ want → ⊥
-pick_none {S} {es} {d} {s} G p n t m w = omega (arith, p.least t m w (omega arith), edge_state S es G s t m)
+-- where it is none, no successor fits; where it is one, that is the smallest
+pub pick_none : {es d : List ℕ} {s want above : ℕ} {r : Option ℕ} → Picked es d s want above r → r ≡ None → (u : ℕ) → Edge es s u → at d u ≡ want → above ≤ u → ⊥
+pick_none p e u m w a = not_some (sym e ∙ (p.least u m w a).1)
+
+pub pick_least : {es d : List ℕ} {s want above t : ℕ} {r : Option ℕ} → Picked es d s want above r → r ≡ Some t → (u : ℕ) → Edge es s u → at d u ≡ want → above ≤ u → t ≤ u
+pick_least {t = t} p e u m w a = let l = p.least u m w a in let same : t ≡ l.0 = some_one (sym e ∙ l.1) in omega (arith, l.2)

@@ -1,5 +1,9 @@
 -- When the laws of runs can be used: accepted tables make a question that is taken; wherever First refuses nothing there is room, and there its answer tells whether there is a witness; every beginning of a run is a chain.
-use mathlib.Core.Path.{◌≡◌, refl, sym}
+use Rattle.std.specs.Prelude.{Some, None, Ok, Err}
+use Rattle.values.specs.Refusal.{answer_number, number_of}
+use Rattle.values.specs.declared.refusal.Refusal.{Refusal}
+use Rattle.paths.specs.Answers.{FirstAnswer}
+use mathlib.Core.Path.{◌≡◌, refl}
 use Prim.Native.Nat.{ℕ, ◌≤◌, ◌<◌}
 use mathlib.Core.List.{List, [], ◌∷◌, ◌++◌}
 use mathlib.Core.Bool.{false, ◌||◌}
@@ -14,11 +18,9 @@ use Rattle.lists.proofs.Tests.{or_none}
 use Rattle.values.specs.Rows.{bad_row}
 use Rattle.kripke.specs.Refusals.{table_refusal}
 use Rattle.kripke.proofs.Reading.{not_15, question_fine}
-use Rattle.paths.specs.declared.FirstAnswer.{FirstAnswer}
-use Rattle.paths.specs.declared.FirstAnswer.TheVariants as first
 use Rattle.paths.specs.Questions.{Question, Witnessed, asked}
 use Rattle.paths.specs.Refusals.{FirstApplies, TooShort, bad_level, first_causes}
-use Rattle.paths.specs.Answers.{FirstPromise, first_number}
+use Rattle.paths.specs.Answers.{FirstPromise}
 use Rattle.paths.specs.Runs.{Chain, Ends, Goes, Roomy, Run}
 use Rattle.paths.proofs.Answering.{first_causes_rise}
 use Rattle.lists.proofs.Late.{applies_none, only_late}
@@ -26,19 +28,19 @@ use Rattle.lists.proofs.Late.{applies_none, only_late}
 -- no cause applies to a question on accepted tables, of a level that is one and from a state
 pub fine_question : (S : ℕ) (es left right : List ℕ) (level start : ℕ) → table_refusal S es ≡ 0 → bad_row S left ≡ false → bad_row S right ≡ false → (level ≡ 1) ⊎ (level ≡ 2) → start < S → refusal_of (first_causes (asked S es left right level) start) ≡ 0
 unfolding bad_level
-fine_question S es left right level start z l r lev h = not_15 S es left right (bad_level level || leb S start) 0 (sym (question_fine S es left right z l r)) refl (or_none (bad_level level) (leb S start) (fine_level lev) (lt-leb S start h))
+fine_question S es left right level start z l r lev h = not_15 S es left right (bad_level level || leb S start) (question_fine S es left right z l r) (or_none (bad_level level) (leb S start) (fine_level lev) (lt-leb S start h))
   where
     fine_level : (level ≡ 1) ⊎ (level ≡ 2) → bad_level level ≡ false
     fine_level (inl e) = rw e
     fine_level (inr e) = rw e
 
-zero_number : (a : FirstAnswer) → ((n : ℕ) → a ≡ first.Refused n → ⊥) → first_number a ≡ 0
-zero_number (first.Path n) h = refl
-zero_number first.None h = refl
-zero_number (first.Refused n) h = absurd (h n refl)
+zero_number : (a : FirstAnswer) → ((e : Refusal) → a ≡ Err e → ⊥) → answer_number a ≡ 0
+zero_number (Ok (Some n)) h = refl
+zero_number (Ok None) h = refl
+zero_number (Err n) h = absurd (h n refl)
 
 -- wherever First refuses nothing, the question is taken and has room
-pub roomy_there_lem : (q : Question) (start : ℕ) (space after : List ℕ) (a : FirstAnswer) → FirstPromise q start space after a → ((n : ℕ) → a ≡ first.Refused n → ⊥) → Roomy q start space
+pub roomy_there_lem : (q : Question) (start : ℕ) (space after : List ℕ) (a : FirstAnswer) → FirstPromise q start space after a → ((e : Refusal) → a ≡ Err e → ⊥) → Roomy q start space
 roomy_there_lem q start space after a f h =
     record {
       taken = applies_none (first_causes q start) (first_causes_rise q start) (λ n x. none n (inl x));
@@ -49,16 +51,16 @@ roomy_there_lem q start space after a f h =
     none n x = omega (arith, (f.number.lowest n x).0, zero_number a h)
 
 -- and where that is so, First refuses nothing
-pub roomy_not_refused : (q : Question) (start : ℕ) (space after : List ℕ) (n : ℕ) → Roomy q start space → FirstPromise q start space after (first.Refused n) → ⊥
+pub roomy_not_refused : (q : Question) (start : ℕ) (space after : List ℕ) (n : Refusal) → Roomy q start space → FirstPromise q start space after (Err n) → ⊥
 roomy_not_refused q start space after n roomy f =
-    let late = (only_late (first_causes q start) (first_causes_rise q start) (λ (k : ℕ). (k ≡ 16) × TooShort q start (length space)) n roomy.taken f.says.numbered f.number).1 in
+    let late = (only_late (first_causes q start) (first_causes_rise q start) (λ (k : ℕ). (k ≡ 16) × TooShort q start (length space)) (number_of n) roomy.taken f.says.numbered f.number).1 in
     omega (arith, roomy.room late.path late.shortest, late.longer)
 
 -- there First answers with a path exactly if there is a witness
-pub path_or_none : (q : Question) (start : ℕ) (space after : List ℕ) (a : FirstAnswer) → Roomy q start space → FirstPromise q start space after a → (Witnessed q start → (n : ℕ) × (a ≡ first.Path n)) × ((Witnessed q start → ⊥) → a ≡ first.None)
-path_or_none q start space after (first.Path n) roomy f = (λ w. (n, refl), λ none. absurd (none (let l = f.says.least.is in (f.says.path, l.begins, l.witness))))
-path_or_none q start space after first.None roomy f = (λ w. absurd (f.says.none w.0 w.1 w.2), λ none. refl)
-path_or_none q start space after (first.Refused n) roomy f = absurd (roomy_not_refused q start space after n roomy f)
+pub path_or_none : (q : Question) (start : ℕ) (space after : List ℕ) (a : FirstAnswer) → Roomy q start space → FirstPromise q start space after a → (Witnessed q start → (n : ℕ) × (a ≡ Ok (Some n))) × ((Witnessed q start → ⊥) → a ≡ (Ok None))
+path_or_none q start space after (Ok (Some n)) roomy f = (λ w. (n, refl), λ none. absurd (none (let l = f.says.least.is in (f.says.path, l.begins, l.witness))))
+path_or_none q start space after (Ok None) roomy f = (λ w. absurd (f.says.none w.0 w.1 w.2), λ none. refl)
+path_or_none q start space after (Err n) roomy f = absurd (roomy_not_refused q start space after n roomy f)
 
 -- every beginning of a run is a chain
 ends_goes : (q : Question) (p : List ℕ) (ps rest : List (List ℕ)) → Ends q p (ps ++ rest) → Goes q p ps

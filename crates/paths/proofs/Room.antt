@@ -1,11 +1,12 @@
 -- S entries are enough: a witness exists exactly if one of at most S entries does, a shortest one has at most S, and with S entries of space 16 is never given.
+use Rattle.std.specs.Prelude.{Err}
+use Rattle.values.specs.declared.refusal.Refusal.TheVariants.{PathSpace}
 use Prim.Native.Nat.{ℕ, ◌≤◌}
 use mathlib.Core.List.{List, [], ◌∷◌}
 use mathlib.Core.Logic.{⊎_elim, ◌↔◌}
 use native.Mathlib.Omega.{arith}
 use lib.ListN.{length}
 use Rattle.kripke.specs.Walks.{Begins}
-use Rattle.paths.specs.declared.FirstAnswer.TheVariants as first
 use Rattle.paths.specs.Questions.{LeftHolds, Question, RightHolds, Shortest, Witness, Witnessed, WitnessedWithin}
 use Rattle.paths.specs.Refusals.{first_causes}
 use Rattle.paths.specs.Answers.{FirstPromise}
@@ -24,7 +25,7 @@ few_enough_lem q s = (λ x. shorter q s x.0 x.1 x.2, λ x. (x.0, x.1, x.2))
 pub shortest_few : (q : Question) (s : ℕ) (p : List ℕ) → Shortest q s p → length p ≤ q.states
 shortest_few q s p h = let x = shorter q s p h.begins h.witness in omega (arith, h.fewest x.0 x.1 x.2, x.3)
 
-pub never_16 : (q : Question) (start : ℕ) (space after : List ℕ) → q.states ≤ length space → FirstPromise q start space after (first.Refused 16) → ⊥
+pub never_16 : (q : Question) (start : ℕ) (space after : List ℕ) → q.states ≤ length space → FirstPromise q start space after (Err PathSpace) → ⊥
 never_16 q start space after room f =
     ⊎_elim
     (λ a. omega (arith, applies_below 15 (first_causes q start) (omega arith) 16 a))

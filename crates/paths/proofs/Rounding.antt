@@ -1,6 +1,6 @@
 -- The rounds: the witnesses of one entry, one state settled, a round of all states, and what the distances say once they reach far enough.
 use mathlib.Core.Path.{◌≡◌, refl, sym, ap, ◌∙◌}
-use Prim.Native.Nat.{ℕ, ◌+◌, ◌≤◌, ◌<◌}
+use Prim.Native.Nat.{ℕ, ◌+◌, ◌-◌, ◌≤◌, ◌<◌}
 use mathlib.Core.List.{List, [], ◌∷◌}
 use mathlib.Core.Bool.{Bool, true, false, cond, ◌||◌}
 use mathlib.Core.Logic.{◌⊎◌, inl, inr, ⊎_elim}
@@ -11,12 +11,14 @@ use lib.Dec.{leb, ltb}
 use borrow.Author.Tests.{leb-false, leb-true, ltb-false, ltb-true}
 use Rattle.lists.specs.Entries.{at}
 use Rattle.lists.specs.Rows.{Filled}
-use Rattle.lists.proofs.Entries.{set_at_or_not}
+use Rattle.lists.proofs.Entries.{set_or_not}
 use Rattle.lists.proofs.Numbers.{lt_or_le}
 use Rattle.lists.proofs.Rows.{filled_at, filled_length}
-use Rattle.kripke.specs.Transitions.{Edge}
+use Rattle.kripke.specs.Transitions.{Edge, Graph, succs}
+use Rattle.std.specs.Option.{IsSome}
+use Rattle.paths.proofs.Fits.{Picked, picked}
 use Rattle.paths.specs.Questions.{From, Reaches}
-use Rattle.paths.specs.Inside.{Down, Far, Layers, Rounded, Settled, Upto, at_once}
+use Rattle.paths.specs.Inside.{Down, Far, Layers, Rounded, Settled, Upto, at_once, first_fit}
 use Rattle.paths.proofs.Simple.{shorten}
 
 module _ {es : List ℕ} {L R : ℕ → Type 0} where
@@ -31,14 +33,14 @@ module _ {es : List ℕ} {L R : ℕ → Type 0} where
             ⊎_elim
             (λ w. let x = u.sound b (omega arith) in (b ∷ x.0, rw w.0 (la, eab, x.1), omega (arith, x.2)))
             (λ w. let x = u.sound s (omega arith) in (x.0, x.1, omega (arith, x.2)))
-            (set_at_or_not d a (k + 1) s h);
+            (set_or_not 0 d a (k + 1) s h);
         least = λ s p f m.
             let x = u.least s p f m in
             ⊎_elim
             (λ w. let e : at d s ≡ at d a = ap (at d) w.0 in absurd (omega (arith, x.0)))
             (λ w. (omega (arith, x.0), omega (arith, x.1)))
-            (set_at_or_not d a (k + 1) s h);
-        bound = λ s. let x = u.bound s in ⊎_elim (λ w. omega arith) (λ w. omega arith) (set_at_or_not d a (k + 1) s h);
+            (set_or_not 0 d a (k + 1) s h);
+        bound = λ s. let x = u.bound s in ⊎_elim (λ w. omega arith) (λ w. omega arith) (set_or_not 0 d a (k + 1) s h);
       }
 
   -- all states have been settled
@@ -114,8 +116,8 @@ module _ {S : ℕ} {es left : List ℕ} {level k : ℕ} {d₀ : List ℕ} where
             ⊎_elim
             (λ (b : (t ≡ s) × (at (set d s (k + 1)) t ≡ k + 1)). absurd (omega (arith, b.1)))
             (λ (b : (t ≡ s → ⊥) × (at (set d s (k + 1)) t ≡ at d t)). omega (arith, a.1, x.seen j (omega (arith, a.0)) t l m (sym b.1 ∙ q)))
-            (set_at_or_not d s (k + 1) t far))
-            (set_at_or_not d s (k + 1) j far));
+            (set_or_not 0 d s (k + 1) t far))
+            (set_or_not 0 d s (k + 1) j far));
       }
   rounding_step {d} {e} {s} x h room pos (inr w) =
       record {
@@ -141,8 +143,8 @@ far_down {d = d} far s (t ∷ p) f e =
     ((f.1, omega arith), far_down far t p f.2 g)
 
 -- distances that reach far enough have what going down needs
-pub far_layers : {es : List ℕ} {L R : ℕ → Type 0} {S start : ℕ} {d : List ℕ} → ((s : ℕ) → L s → s < S) → ((s : ℕ) → R s → s < S) → S ≤ length d → Far es L R S start d → Layers S es d
-far_layers {es} {L} {R} {S} {start} {d} ls rs room far = record { room = room; inside = inside; few = few; next = next }
+pub far_layers : {es : List ℕ} {L R : ℕ → Type 0} {S start : ℕ} {d : List ℕ} → Graph S es → ((s : ℕ) → L s → s < S) → ((s : ℕ) → R s → s < S) → Far es L R S start d → Layers S es d
+far_layers {es} {L} {R} {S} {start} {d} G ls rs far = record { inside = inside; few = few; next = next }
   where
     first_state : (s : ℕ) (p : List ℕ) → From es L R s p → s < S
     first_state s [] f = rs s f
@@ -163,9 +165,16 @@ far_layers {es} {L} {R} {S} {start} {d} ls rs room far = record { room = room; i
             (λ (l : far.reach ≤ length y.0). omega (arith, far.upto.bound s, y.2))
             (lt_or_le (length y.0) far.reach)
 
-    next : (s : ℕ) → 1 < at d s → (t : ℕ) × Edge es s t × (at d s ≡ at d t + 1)
-    next s h = let x = far.upto.sound s (omega arith) in go x.0 x.1 x.2
+    below : (s : ℕ) → 1 < at d s → (t : ℕ) × Edge es s t × (at d s ≡ at d t + 1)
+    below s h = let x = far.upto.sound s (omega arith) in go x.0 x.1 x.2
       where
         go : (p : List ℕ) → From es L R s p → length p + 1 ≡ at d s → (t : ℕ) × Edge es s t × (at d s ≡ at d t + 1)
         go [] f e = absurd (omega arith)
         go (t ∷ p) f e = let w = far_down far s (t ∷ p) f (sym e) in (t, w.0.0, w.0.1)
+
+    next : (s : ℕ) → 1 < at d s → IsSome (first_fit d (at d s - 1) 0 (succs es s))
+    next s h =
+        let b = below s h in
+        let p : Picked es d s (at d s - 1) 0 (first_fit d (at d s - 1) 0 (succs es s)) = picked G refl in
+        let l = p.least b.0 b.1 (omega (arith, b.2)) (omega arith) in
+        rw l.1 refl

@@ -1,4 +1,7 @@
 -- The run: for a question that is taken and a space with room exactly one whole run exists, every chain is a beginning of it, it holds every shortest witness and no other list, each once, ascending; after "end" comes "end".
+use Rattle.paths.specs.declared.Further.TheVariants.{Path, End}
+use Rattle.std.specs.Prelude.{true, Some, None, Ok}
+use Rattle.paths.specs.Answers.{NextAnswer}
 use mathlib.Core.Path.{◌≡◌, refl, sym, ap₂, ◌∙◌, subst}
 use Prim.Native.Nat.{ℕ}
 use mathlib.Core.List.{List, [], ◌∷◌, ◌++◌}
@@ -16,9 +19,6 @@ use Rattle.kripke.specs.Refusals.{table_causes, table_refusal}
 use Rattle.values.specs.Rows.{bad_row}
 use Rattle.kripke.specs.Transitions.{Graph}
 use Rattle.kripke.proofs.Refusals.{accepted, table_rises}
-use Rattle.paths.specs.declared.FirstAnswer.TheVariants as first
-use Rattle.paths.specs.declared.NextAnswer.{NextAnswer}
-use Rattle.paths.specs.declared.NextAnswer.TheVariants as next
 use Rattle.paths.specs.Questions.{Question, Shortest}
 use Rattle.paths.specs.Order.{Among, Ascending, Beyond, Least, Smaller}
 use Rattle.paths.specs.Refusals.{bad_level, causes, first_causes}
@@ -89,24 +89,24 @@ run_of q start space roomy e (p ∷ ps) z =
 -- First hands out one list, or none
 opens_one : (q : Question) (start : ℕ) (space p r : List ℕ) → Opens q start space p → Opens q start space r → p ≡ r
 opens_one q start space p r a b =
-    let x = first_one q start space a.after b.after (first.Path a.size) (first.Path b.size) a.answered b.answered in
+    let x = first_one q start space a.after b.after (Ok (Some a.size)) (Ok (Some b.size)) a.answered b.answered in
     let size : a.size ≡ b.size = (let y = x.0 in cc) in
     a.handed ∙ ap₂ take size x.1 ∙ sym b.handed
 
 opens_not : (q : Question) (start : ℕ) (space p : List ℕ) → Opens q start space p → OpensNone q start space → ⊥
 opens_not q start space p a b =
-    let x = (first_one q start space a.after b.after (first.Path a.size) first.None a.answered b.answered).0 in
+    let x = (first_one q start space a.after b.after (Ok (Some a.size)) (Ok None) a.answered b.answered).0 in
     let z : ◌≡◌ {A = ℕ} 0 1 = cc in omega arith
 
 -- what Next handed out so far is a beginning of what it hands out in all
-path_not_end : (q : Question) (p r : List ℕ) → NextPromise q p r next.Path → NextPromise q p p next.End → ⊥
-path_not_end q p r a b = let x = (next_one q p r p next.Path next.End a b).0 in let z : ◌≡◌ {A = ℕ} 0 1 = cc in omega arith
+path_not_end : (q : Question) (p r : List ℕ) → NextPromise q p r (Ok Path) → NextPromise q p p (Ok End) → ⊥
+path_not_end q p r a b = let x = (next_one q p r p (Ok Path) (Ok End) a b).0 in let z : ◌≡◌ {A = ℕ} 0 1 = cc in omega arith
 
 goes_beginning : (q : Question) (p : List ℕ) (ps rs : List (List ℕ)) → Goes q p ps → Ends q p rs → (rest : List (List ℕ)) × (rs ≡ ps ++ rest)
 goes_beginning q p [] rs g e = (rs, refl)
 goes_beginning q p (x ∷ ps) [] g e = absurd (path_not_end q p x g.0 e)
 goes_beginning q p (x ∷ ps) (y ∷ rs) g e =
-    let same : x ≡ y = (next_one q p x y next.Path next.Path g.0 e.0).1 in
+    let same : x ≡ y = (next_one q p x y (Ok Path) (Ok Path) g.0 e.0).1 in
     let i = goes_beginning q x ps rs g.1 (subst (λ (z : List ℕ). Ends q z rs) (sym same) e.1) in
     (i.0, ap₂ ◌∷◌ (sym same) i.1)
 
@@ -115,7 +115,7 @@ ends_one q p [] [] a b = refl
 ends_one q p [] (y ∷ rs) a b = absurd (path_not_end q p y b.0 a)
 ends_one q p (x ∷ ps) [] a b = absurd (path_not_end q p x a.0 b)
 ends_one q p (x ∷ ps) (y ∷ rs) a b =
-    let same : x ≡ y = (next_one q p x y next.Path next.Path a.0 b.0).1 in
+    let same : x ≡ y = (next_one q p x y (Ok Path) (Ok Path) a.0 b.0).1 in
     ap₂ ◌∷◌ same (ends_one q x ps rs a.1 (subst (λ (z : List ℕ). Ends q z rs) (sym same) b.1))
 
 pub run_one : (q : Question) (start : ℕ) (space : List ℕ) (ps rs : List (List ℕ)) → Run q start space ps → Run q start space rs → ps ≡ rs
@@ -150,11 +150,11 @@ run_holds q start space roomy ps r =
     (λ v. (λ m. e.only v (subst (Among v) (sym same) m), λ h. subst (Among v) same (e.every v h)), subst Ascending same e.ascending)
 
 -- asking again after "end" gives "end"
-pub end_again_lem : (q : Question) (p after again : List ℕ) (a : NextAnswer) → NextPromise q p after next.End → NextPromise q after again a → (a ≡ next.End) × (again ≡ after)
+pub end_again_lem : (q : Question) (p after again : List ℕ) (a : NextAnswer) → NextPromise q p after (Ok End) → NextPromise q after again a → (a ≡ (Ok End)) × (again ≡ after)
 end_again_lem q p after again a x y =
     let same : after ≡ p = x.says.untouched in
-    let x' : NextPromise q after after next.End = subst (λ (z : List ℕ). NextPromise q z after next.End) (sym same) x in
-    next_one q after again after a next.End y x'
+    let x' : NextPromise q after after (Ok End) = subst (λ (z : List ℕ). NextPromise q z after (Ok End)) (sym same) x in
+    next_one q after again after a (Ok End) y x'
 
 -- the run, computed: of the walks of the least length that has a witness, those that are one
 pub computed_run : (q : Question) (start : ℕ) (space : List ℕ) → Roomy q start space → Run q start space (shortest_upto q start q.states)

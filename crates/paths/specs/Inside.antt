@@ -1,20 +1,21 @@
 -- What the private functions promise to each other.
+use denote.Struct.Props.{props}
+use Rattle.paths.specs.declared.Further.TheVariants.{Path, End}
+use Rattle.std.specs.Prelude.{Option, Some, None, Ok, Err}
+use Rattle.std.specs.Option.{IsSome}
+use Rattle.values.specs.Refusal.{number_of}
+use Rattle.values.specs.declared.refusal.Refusal.TheVariants.{NotShortest}
+use Rattle.paths.specs.Answers.{FirstAnswer, NextAnswer}
 use Rattle.std.specs.Prelude.{◌≡◌, ℕ, ◌+◌, ◌-◌, ◌<◌, ◌≤◌, List, [], ◌∷◌, Bool, true, false, cond, not, ◌&&◌, ◌||◌, ◌⊎◌, length, drop, set, eqb, ltb, leb}
+use Rattle.std.specs.List.{list_any}
 use Rattle.lists.specs.Entries.{at, any_below}
 use Rattle.lists.specs.Rows.{fill}
 use Rattle.kripke.specs.Transitions.{Edge, succs}
-use Rattle.paths.specs.declared.FirstAnswer.{FirstAnswer}
-use Rattle.paths.specs.declared.FirstAnswer.TheVariants as first
-use Rattle.paths.specs.declared.NextAnswer.{NextAnswer}
-use Rattle.paths.specs.declared.NextAnswer.TheVariants as next
-use Rattle.paths.specs.declared.faults.Fault.{Fault}
-use Rattle.paths.specs.declared.faults.Fault.TheVariants.{At, Nowhere}
 use Rattle.paths.specs.Questions.{Reaches, From}
 
 -- t is an entry
 unfoldable pub has : ℕ → List ℕ → Bool
-has t [] = false
-has t (x ∷ xs) = eqb x t || has t xs
+has t xs = list_any (λ (x : ℕ). eqb x t) xs
 
 -- entry i has an entry before it and no transition from that one
 unfoldable pub unjoined : List ℕ → List ℕ → ℕ → Bool
@@ -24,15 +25,15 @@ unjoined es p i = ltb 0 i && not (has (at p i) (succs es (at p (i - 1))))
 unfoldable pub at_fault : ℕ → List ℕ → (ℕ → ℕ) → (ℕ → ℕ) → ℕ → List ℕ → ℕ → Bool
 at_fault S es left right level p i = leb S (at p i) || (unjoined es p i || ltb (cond (ltb (i + 1) (length p)) (left (at p i)) (right (at p i))) level)
 
--- `first_fault`
-abbrev pub FaultFound : ℕ → List ℕ → (ℕ → ℕ) → (ℕ → ℕ) → ℕ → List ℕ → Fault → Type 0
-FaultFound S es left right level p (At i) = ((length p ≡ 0) × (i ≡ 0)) ⊎ ((i < length p) × (at_fault S es left right level p i ≡ true) × (any_below (at_fault S es left right level p) i ≡ false))
-FaultFound S es left right level p Nowhere = (0 < length p) × (any_below (at_fault S es left right level p) (length p) ≡ false)
+-- `is_witness`: there is an entry and none is at fault; or there is none, or one that is
+abbrev pub Faultless : ℕ → List ℕ → (ℕ → ℕ) → (ℕ → ℕ) → ℕ → List ℕ → Bool → Type 0
+Faultless S es left right level p true = (0 < length p) × (any_below (at_fault S es left right level p) (length p) ≡ false)
+Faultless S es left right level p false = (length p ≡ 0) ⊎ ((i : ℕ) × (i < length p) × (at_fault S es left right level p i ≡ true))
 
--- the first entry that is not below `above` and has the distance that is wanted; S for none
-unfoldable pub first_fit : ℕ → List ℕ → ℕ → ℕ → List ℕ → ℕ
-first_fit S d want above [] = S
-first_fit S d want above (t ∷ ts) = cond (leb above t && eqb (at d t) want) t (first_fit S d want above ts)
+-- the first entry that is not below `above` and has the distance that is wanted
+unfoldable pub first_fit : List ℕ → ℕ → ℕ → List ℕ → Option ℕ
+first_fit d want above [] = None
+first_fit d want above (t ∷ ts) = cond (leb above t && eqb (at d t) want) (Some t) (first_fit d want above ts)
 
 -- the witnesses of one entry: 1 for a state whose right value is at least the level
 unfoldable pub at_once : ℕ → (ℕ → ℕ) → ℕ → ℕ → ℕ
@@ -66,10 +67,13 @@ Measured S es left right level start d = Far es (Reaches S level (at left)) (Rea
 
 -- what going down the distances needs: only states have one, at most S, and from 2 on there is a next one below
 pub record Layers (S : ℕ) (es d : List ℕ) : Type 0 where
-  pub room : S ≤ length d
   pub inside : (s : ℕ) → 0 < at d s → s < S
   pub few : (s : ℕ) → at d s ≤ S
-  pub next : (s : ℕ) → 1 < at d s → (t : ℕ) × Edge es s t × (at d s ≡ at d t + 1)
+  pub next : (s : ℕ) → 1 < at d s → IsSome (first_fit d (at d s - 1) 0 (succs es s))
+
+-- there is one proof of it at most, as a ghost field asks
+pub Layers-prop : (S : ℕ) (es d : List ℕ) → IsProp (Layers S es d)
+Layers-prop S es d = Prim.hlevel props
 
 module _ (es : List ℕ) (d : ℕ → ℕ) where
   -- t is a successor of s with a distance one less
@@ -110,33 +114,32 @@ pub record Advanced (es : List ℕ) (d : ℕ → ℕ) (before after : List ℕ) 
   pub onto : more ≡ true → Onto es d (at before 0) (drop 1 before) (drop 1 after)
   pub top : more ≡ false → (after ≡ before) × Greatest es d (at before 0) (drop 1 before)
 
--- `first_path`
+-- `Descent::first`
 abbrev pub FirstFound : List ℕ → (ℕ → ℕ) → ℕ → List ℕ → List ℕ → FirstAnswer → Type 0
-FirstFound es d start before after (first.Path n) = (d start ≡ n) × (n ≤ length before) × ((p : List ℕ) × (length p ≡ n) × (after ≡ fill p before) × Descended es d start p)
-FirstFound es d start before after first.None = (d start ≡ 0) × (after ≡ before)
-FirstFound es d start before after (first.Refused n) = (n ≡ 16) × (0 < d start) × (length before < d start) × (after ≡ before)
+FirstFound es d start before after (Ok (Some n)) = (d start ≡ n) × (n ≤ length before) × ((p : List ℕ) × (length p ≡ n) × (after ≡ fill p before) × Descended es d start p)
+FirstFound es d start before after (Ok None) = (d start ≡ 0) × (after ≡ before)
+FirstFound es d start before after (Err e) = (number_of e ≡ 16) × (0 < d start) × (length before < d start) × (after ≡ before)
 
--- `next_path`
+-- `Descent::next`
 abbrev pub NextFound : List ℕ → (ℕ → ℕ) → List ℕ → List ℕ → NextAnswer → Type 0
-NextFound es d before after next.Path = (d (at before 0) ≡ length before) × (length after ≡ length before) × (at after 0 ≡ at before 0) × Onto es d (at before 0) (drop 1 before) (drop 1 after)
-NextFound es d before after next.End = (d (at before 0) ≡ length before) × (after ≡ before) × Greatest es d (at before 0) (drop 1 before)
-NextFound es d before after (next.Refused n) = (n ≡ 17) × (d (at before 0) ≡ length before → ⊥) × (after ≡ before)
+NextFound es d before after (Ok Path) = (d (at before 0) ≡ length before) × (length after ≡ length before) × (at after 0 ≡ at before 0) × Onto es d (at before 0) (drop 1 before) (drop 1 after)
+NextFound es d before after (Ok End) = (d (at before 0) ≡ length before) × (after ≡ before) × Greatest es d (at before 0) (drop 1 before)
+NextFound es d before after (Err e) = (number_of e ≡ 17) × (d (at before 0) ≡ length before → ⊥) × (after ≡ before)
 
--- `first_from`
+-- `Question::first`
 pub record FirstWorked (S : ℕ) (es left right : List ℕ) (level start : ℕ) (before after : List ℕ) (answer : FirstAnswer) : Type 0 where
   pub distances : List ℕ
   pub measured : Measured S es left right level start distances
   pub found : FirstFound es (at distances) start before after answer
 
--- `next_from`: an entry is at fault, or none is and the distances tell
+-- `Question::next`: an entry is at fault, or none is and the distances tell
 pub record NextBroken (S : ℕ) (es left right : List ℕ) (level : ℕ) (before after : List ℕ) (answer : NextAnswer) : Type 0 where
-  pub place : ℕ
-  pub broken : FaultFound S es (at left) (at right) level before (At place)
-  pub refused : answer ≡ next.Refused 17
+  pub broken : Faultless S es (at left) (at right) level before false
+  pub refused : answer ≡ Err NotShortest
   pub untouched : after ≡ before
 
 pub record NextTold (S : ℕ) (es left right : List ℕ) (level : ℕ) (before after : List ℕ) (answer : NextAnswer) : Type 0 where
-  pub whole : FaultFound S es (at left) (at right) level before Nowhere
+  pub whole : Faultless S es (at left) (at right) level before true
   pub distances : List ℕ
   pub measured : Measured S es left right level (at before 0) distances
   pub found : NextFound es (at distances) before after answer

@@ -1,8 +1,8 @@
 -- A run: First's answer and then Next's answers, the list lent to Next being exactly the entries given before.
+use Rattle.paths.specs.declared.Further.TheVariants.{Path, End}
+use Rattle.std.specs.Prelude.{Some, None, Ok}
 use Rattle.std.specs.Prelude.{◌≡◌, ℕ, ◌≤◌, List, [], ◌∷◌, length, take}
 use Rattle.lists.specs.Causes.{refusal_of}
-use Rattle.paths.specs.declared.FirstAnswer.TheVariants as first
-use Rattle.paths.specs.declared.NextAnswer.TheVariants as next
 use Rattle.paths.specs.Questions.{Question, Shortest}
 use Rattle.paths.specs.Refusals.{first_causes}
 use Rattle.paths.specs.Answers.{FirstPromise, NextPromise}
@@ -11,23 +11,23 @@ use Rattle.paths.specs.Answers.{FirstPromise, NextPromise}
 pub record Opens (q : Question) (start : ℕ) (space p : List ℕ) : Type 0 where
   pub after : List ℕ
   pub size : ℕ
-  pub answered : FirstPromise q start space after (first.Path size)
+  pub answered : FirstPromise q start space after (Ok (Some size))
   pub handed : p ≡ take size after
 
 -- First, lent this space, said that there is no path
 pub record OpensNone (q : Question) (start : ℕ) (space : List ℕ) : Type 0 where
   pub after : List ℕ
-  pub answered : FirstPromise q start space after first.None
+  pub answered : FirstPromise q start space after (Ok None)
 
 -- Next, lent p, handed out the lists one after the other; a chain may go on
 abbrev pub Goes : Question → List ℕ → List (List ℕ) → Type 0
 Goes q p [] = Unit {0}
-Goes q p (r ∷ rs) = NextPromise q p r next.Path × Goes q r rs
+Goes q p (r ∷ rs) = NextPromise q p r (Ok Path) × Goes q r rs
 
 -- and then, lent the last of them, it said "end"
 abbrev pub Ends : Question → List ℕ → List (List ℕ) → Type 0
-Ends q p [] = NextPromise q p p next.End
-Ends q p (r ∷ rs) = NextPromise q p r next.Path × Ends q r rs
+Ends q p [] = NextPromise q p p (Ok End)
+Ends q p (r ∷ rs) = NextPromise q p r (Ok Path) × Ends q r rs
 
 -- what was handed out so far
 abbrev pub Chain : Question → ℕ → List ℕ → List (List ℕ) → Type 0

@@ -1,100 +1,62 @@
-// The first entry of a list at fault.
-ghost use Rattle.std.specs.Prelude.{◌≡◌, ◌+◌, ◌-◌, ◌<◌, ◌≤◌, length};
+// Whether a list is a witness: it has an entry, and none is at fault.
+ghost use Rattle.std.specs.Prelude.{◌≡◌, ◌<◌, length};
 ghost use Rattle.lists.specs.Entries.{at};
 ghost use Rattle.kripke.specs.Transitions.{succs};
-ghost use Rattle.kripke.specs.Inside.{Ready};
-ghost use Rattle.paths.specs.Inside.{has, unjoined, at_fault, FaultFound};
+ghost use Rattle.paths.specs.Inside.{has, unjoined};
 
-#[derive(Drop)]
-pub(crate) enum Fault {
-    At(usize),
-    Nowhere,
-}
+use crate::question::Question;
+use kripke::lent::Graph;
 
 // Whether there is a transition from s to t.
-fn joined(states: usize, transitions: &[u16], begins: &[u16], s: usize, t: usize) -> bool
-    requires ready { Ready states transitions.now begins.now }
-    requires s_lt_states { s < states }
-    ensures { result ≡ has t (succs transitions.now s) }
+fn joined(graph: &Graph, s: usize, t: usize) -> bool
+    ensures { result ≡ has t (succs graph.now.transitions.now s) }
 {
-    let end = begins[s + 1] as usize;
-    let mut k = begins[s] as usize;
-    while k < end {
-        let to = transitions[2 * k + 1] as usize;
-        if to == t {
-            return true;
-        }
-        k += 1;
-    }
-    false
+    graph.successors(s).any(|to| to == t)
 }
 
 // Whether entry i has an entry before it and no transition from it.
-fn is_unjoined(states: usize, transitions: &[u16], begins: &[u16], path: &[u16], i: usize) -> bool
-    requires ready { Ready states transitions.now begins.now }
-    requires i_in_bounds { (i < length path.now) × (0 < i → at path.now (i - 1) < states) }
-    ensures { result ≡ unjoined transitions.now path.now i }
+fn is_unjoined(graph: &Graph, path: &[u16], i: usize) -> bool
+    requires { i < length path.now }
+    ensures { result ≡ unjoined graph.now.transitions.now path.now i }
 {
     if i == 0 {
         return false;
     }
-    let s = path[i - 1] as usize;
-    let t = path[i] as usize;
-    !joined(states, transitions, begins, s, t)
+    !joined(graph, path[i - 1] as usize, path[i] as usize)
 }
 
-// Whether entry i is no state, has no transition from the one before it, or lacks the left value; at the last place, the right.
-fn is_fault<'a>(
-    states: usize,
-    transitions: &[u16],
-    begins: &'a [u16],
-    left: &'a [u8],
-    right: &'a [u8],
-    level: u8,
-    path: &[u16],
-    i: usize,
-) -> bool
-    requires ready { Ready states transitions.now begins.now }
-    requires states_in_bounds { (states ≤ length left.now) × (states ≤ length right.now) × (i < length path.now) × (0 < i → at path.now (i - 1) < states) }
-    ensures { result ≡ at_fault states transitions.now (at left.now) (at right.now) level path.now i }
-{
-    let s = path[i] as usize;
-    if states <= s {
-        return true;
-    }
-    if is_unjoined(states, transitions, begins, path, i) {
-        return true;
-    }
-    if i + 1 < path.len() {
-        return left[s] < level;
-    }
-    right[s] < level
-}
+impl<'a> Question<'a> {
+    ghost use Rattle.paths.specs.Inside.{at_fault, Faultless};
 
-// The first entry at fault; an empty list is at fault at 0.
-pub(crate) fn first_fault<'a>(
-    states: usize,
-    transitions: &[u16],
-    begins: &'a [u16],
-    left: &'a [u8],
-    right: &'a [u8],
-    level: u8,
-    path: &[u16],
-) -> Fault
-    requires ready { Ready states transitions.now begins.now }
-    requires states_in_bounds { (states ≤ length left.now) × (states ≤ length right.now) }
-    ensures { FaultFound states transitions.now (at left.now) (at right.now) level path.now result }
-{
-    let n = path.len();
-    if n == 0 {
-        return Fault::At(0);
-    }
-    let mut i: usize = 0;
-    while i < n {
-        if is_fault(states, transitions, begins, left, right, level, path, i) {
-            return Fault::At(i);
+    // Whether entry i is no state, has no transition from the one before it, or lacks the left value; at the last place, the right.
+    fn is_fault(&self, path: &[u16], i: usize) -> bool
+        requires { i < length path.now }
+        ensures { result ≡ at_fault self.now.graph.states self.now.graph.transitions.now (at self.now.left.now) (at self.now.right.now) self.now.level path.now i }
+    {
+        let s = path[i] as usize;
+        if self.graph.states <= s {
+            return true;
         }
-        i += 1;
+        if is_unjoined(&self.graph, path, i) {
+            return true;
+        }
+        if i + 1 < path.len() {
+            return self.left[s] < self.level;
+        }
+        self.right[s] < self.level
     }
-    Fault::Nowhere
+
+    pub(crate) fn is_witness(&self, path: &[u16]) -> bool
+        ensures { Faultless self.now.graph.states self.now.graph.transitions.now (at self.now.left.now) (at self.now.right.now) self.now.level path.now result }
+    {
+        if path.is_empty() {
+            return false;
+        }
+        for i in 0..path.len() {
+            if self.is_fault(path, i) {
+                return false;
+            }
+        }
+        true
+    }
 }

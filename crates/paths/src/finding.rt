@@ -1,72 +1,42 @@
 // First's and Next's answers, for tables that are not refused.
-ghost use Rattle.std.specs.Prelude.{◌<◌, ◌≤◌, length};
-ghost use Rattle.kripke.specs.Inside.{Ready};
-ghost use Rattle.paths.specs.Inside.{FirstWorked, NextWorked};
+ghost use Rattle.std.specs.Prelude.{◌<◌};
 
-use crate::descent::{first_path, next_path};
-use crate::faults::{Fault, first_fault};
-use crate::measure::measure;
-use crate::{FirstAnswer, NextAnswer};
+use crate::Further;
+use crate::descent::Descent;
+use crate::question::Question;
 use values::limits::MOST_STATES;
+use values::refusal::Refusal;
 
-// The smallest list from the start, by the distances.
-pub(crate) fn first_from<'a>(
-    states: usize,
-    transitions: &[u16],
-    begins: &'a [u16],
-    left: &'a [u8],
-    right: &'a [u8],
-    level: u8,
-    start: usize,
-    path: &mut [u16],
-) -> FirstAnswer
-    requires ready { Ready states transitions.now begins.now }
-    requires states_in_bounds { (states ≤ length left.now) × (states ≤ length right.now) × (start < states) }
-    ensures { FirstWorked states transitions.now left.now right.now level start path.old path.new result }
-{
-    let mut distances = [0u16; MOST_STATES];
-    measure(
-        states,
-        transitions,
-        begins,
-        left,
-        right,
-        level,
-        start,
-        &mut distances,
-    );
-    first_path(states, transitions, begins, &distances, start, path)
-}
+impl<'a> Question<'a> {
+    ghost use Rattle.paths.specs.Inside.{FirstWorked, NextWorked};
 
-// The next larger list, by the distances, where no entry is at fault.
-pub(crate) fn next_from<'a>(
-    states: usize,
-    transitions: &[u16],
-    begins: &'a [u16],
-    left: &'a [u8],
-    right: &'a [u8],
-    level: u8,
-    path: &mut [u16],
-) -> NextAnswer
-    requires ready { Ready states transitions.now begins.now }
-    requires states_in_bounds { (states ≤ length left.now) × (states ≤ length right.now) }
-    ensures { NextWorked states transitions.now left.now right.now level path.old path.new result }
-{
-    let fault = first_fault(states, transitions, begins, left, right, level, path);
-    if let Fault::At(_) = fault {
-        return NextAnswer::Refused(17);
+    // The smallest list from the start, by the distances.
+    pub(crate) fn first(&self, start: usize, path: &mut [u16]) -> Result<Option<usize>, Refusal>
+        requires { start < self.now.graph.states }
+        ensures { FirstWorked self.now.graph.states self.now.graph.transitions.now self.now.left.now self.now.right.now self.now.level start path.old path.new result }
+    {
+        let mut distances = [0u16; MOST_STATES];
+        self.measure(start, &mut distances);
+        let descent = Descent {
+            graph: self.graph,
+            distances: &distances,
+        };
+        descent.first(start, path)
     }
-    let start = path[0] as usize;
-    let mut distances = [0u16; MOST_STATES];
-    measure(
-        states,
-        transitions,
-        begins,
-        left,
-        right,
-        level,
-        start,
-        &mut distances,
-    );
-    next_path(states, transitions, begins, &distances, path)
+
+    // The next larger list, by the distances, where the lent one is a witness.
+    pub(crate) fn next(&self, path: &mut [u16]) -> Result<Further, Refusal>
+        ensures { NextWorked self.now.graph.states self.now.graph.transitions.now self.now.left.now self.now.right.now self.now.level path.old path.new result }
+    {
+        if !self.is_witness(path) {
+            return Err(Refusal::NotShortest);
+        }
+        let mut distances = [0u16; MOST_STATES];
+        self.measure(path[0] as usize, &mut distances);
+        let descent = Descent {
+            graph: self.graph,
+            distances: &distances,
+        };
+        descent.next(path)
+    }
 }

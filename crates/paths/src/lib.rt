@@ -1,8 +1,9 @@
 // Paths: the shortest witnesses of an exists-until question, one after the other, and any list checked.
 // What each call promises is named in specs/ and settled for every input.
 //
+//   question  the tables as they are lent below the calls
 //   measure   for each state how many entries a shortest witness from it has
-//   faults    the first entry of a list at fault
+//   faults    whether an entry of a list is at fault
 //   descent   down to the smallest next state, and on to the next larger list
 //   finding   these put together, for tables that are not refused
 //   tests     the tests of 15
@@ -11,39 +12,26 @@
 ghost use Rattle.paths.specs.Questions.{asked};
 ghost use Rattle.paths.specs.Answers.{FirstPromise, NextPromise, CheckPromise};
 
-use kripke::tables::read_tables;
-
 mod descent;
 mod faults;
 mod finding;
 mod measure;
+mod question;
 mod tests;
 
-// The length of the path, that there is none, or the number of a refusal.
-#[derive(Clone, Copy)]
-pub enum FirstAnswer {
-    Path(usize),
-    None,
-    Refused(u8),
-}
+use crate::question::Question;
+use kripke::tables::read_tables;
+use values::refusal::Refusal;
 
-// The next path is there, there are no more, or the number of a refusal.
-#[derive(Clone, Copy)]
-pub enum NextAnswer {
+// What follows a witness: the next larger one, now in its place, or no other.
+#[derive(Clone, Copy, PartialEq, Eq, Debug)]
+pub enum Further {
     Path,
     End,
-    Refused(u8),
 }
 
-// The list is a witness, it is none, or the number of a refusal.
-#[derive(Clone, Copy)]
-pub enum CheckAnswer {
-    Yes,
-    No,
-    Refused(u8),
-}
-
-// The smallest shortest witness from start, at the front of the path space.
+// The smallest shortest witness from start, at the front of the path space: its length, if there is one.
+// kept: the tables one by one, as the C interface lends them, and the level a number, since what a public function takes gets no narrower.
 pub fn first(
     states: usize,
     transitions: &[u16],
@@ -52,32 +40,22 @@ pub fn first(
     level: u8,
     start: usize,
     path: &mut [u16],
-) -> FirstAnswer
+) -> Result<Option<usize>, Refusal>
     ensures { FirstPromise (asked states transitions.now left.now right.now level) start path.old path.new result }
 {
-    let t = read_tables(states, transitions, left, right);
-    if t.refusal != 0 {
-        return FirstAnswer::Refused(t.refusal);
-    }
+    let t = read_tables(states, transitions, left, right)?;
     if tests::bad_level(level) {
-        return FirstAnswer::Refused(15);
+        return Err(Refusal::LevelOrStart);
     }
     if tests::bad_start(states, start) {
-        return FirstAnswer::Refused(15);
+        return Err(Refusal::LevelOrStart);
     }
-    finding::first_from(
-        states,
-        transitions,
-        &t.begins,
-        &t.left,
-        &t.right,
-        level,
-        start,
-        path,
-    )
+    let question = Question::of(&t, states, transitions, level);
+    question.first(start, path)
 }
 
-// The next larger shortest witness from the same start, in place of the one that is lent.
+// The next larger shortest witness from the same start, in place of the one that is lent: whether there is one.
+// kept: the tables one by one and the level a number, as in `first`.
 pub fn next(
     states: usize,
     transitions: &[u16],
@@ -85,28 +63,19 @@ pub fn next(
     right: &[u8],
     level: u8,
     path: &mut [u16],
-) -> NextAnswer
+) -> Result<Further, Refusal>
     ensures { NextPromise (asked states transitions.now left.now right.now level) path.old path.new result }
 {
-    let t = read_tables(states, transitions, left, right);
-    if t.refusal != 0 {
-        return NextAnswer::Refused(t.refusal);
-    }
+    let t = read_tables(states, transitions, left, right)?;
     if tests::bad_level(level) {
-        return NextAnswer::Refused(15);
+        return Err(Refusal::LevelOrStart);
     }
-    finding::next_from(
-        states,
-        transitions,
-        &t.begins,
-        &t.left,
-        &t.right,
-        level,
-        path,
-    )
+    let question = Question::of(&t, states, transitions, level);
+    question.next(path)
 }
 
 // Whether a list is a witness, shortest or not.
+// kept: the tables one by one and the level a number, as in `first`.
 pub fn check(
     states: usize,
     transitions: &[u16],
@@ -114,27 +83,13 @@ pub fn check(
     right: &[u8],
     level: u8,
     path: &[u16],
-) -> CheckAnswer
+) -> Result<bool, Refusal>
     ensures { CheckPromise (asked states transitions.now left.now right.now level) path.now result }
 {
-    let t = read_tables(states, transitions, left, right);
-    if t.refusal != 0 {
-        return CheckAnswer::Refused(t.refusal);
-    }
+    let t = read_tables(states, transitions, left, right)?;
     if tests::bad_level(level) {
-        return CheckAnswer::Refused(15);
+        return Err(Refusal::LevelOrStart);
     }
-    let fault = faults::first_fault(
-        states,
-        transitions,
-        &t.begins,
-        &t.left,
-        &t.right,
-        level,
-        path,
-    );
-    match fault {
-        faults::Fault::At(_) => CheckAnswer::No,
-        faults::Fault::Nowhere => CheckAnswer::Yes,
-    }
+    let question = Question::of(&t, states, transitions, level);
+    Ok(question.is_witness(path))
 }

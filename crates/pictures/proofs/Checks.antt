@@ -6,8 +6,8 @@ use mathlib.Core.Bool.{Bool, true, false, cond, not, true≢false}
 use native.Mathlib.Omega.{arith}
 use lib.ListN.{length, take, drop}
 use lib.Seq.{take_at}
-use lib.Dec.{eqb, leb}
-use borrow.Author.Tests.{le-leb, eqb-true, eqb-false}
+use lib.Dec.{leb}
+use borrow.Author.Tests.{le-leb}
 use Rattle.lists.specs.Causes.{refusal_of}
 use Rattle.lists.specs.Entries.{All, at}
 use Rattle.lists.specs.Rows.{fill}
@@ -21,13 +21,14 @@ use Rattle.kripke.specs.Answers.{OppositeStored, opposite_row}
 use Rattle.kripke.specs.Refusals.{question_causes, table_refusal}
 use Rattle.kripke.proofs.Opposites.{opposite_at, opposite_size, opposite_valid}
 use Rattle.kripke.proofs.Reading.{not_15, question_fine}
-use Rattle.paths.specs.declared.CheckAnswer.TheVariants as check
+use Rattle.std.specs.Prelude.{Ok, Err}
+use Rattle.values.specs.Refusal.{number_of}
+use Rattle.values.specs.declared.refusal.Refusal.{Refusal}
 use Rattle.paths.specs.Answers.{CheckPromise}
 use Rattle.paths.specs.Questions.{From, Reaches, asked}
 use Rattle.paths.specs.Refusals.{bad_level, causes}
 use Rattle.paths.proofs.Answering.{causes_rise}
 use Rattle.pictures.specs.declared.Ending.{Ending}
-use Rattle.pictures.specs.declared.Ending.TheVariants.{Falls, Back}
 use Rattle.pictures.specs.Inside.{Passing, Readable, Tells}
 use Rattle.pictures.specs.Pictures.{Along, Drawn, EndsBy, LeadsBack, last}
 
@@ -41,23 +42,23 @@ tells_no n = record { holds = λ e. absurd (true≢false (sym e)); fails = λ e.
 pub tells_map : {P Q : Type 0} {b : Bool} → (P → Q) → (Q → P) → Tells P b → Tells Q b
 tells_map f g t = record { holds = λ e. f (t.holds e); fails = λ e q. t.fails e (g q) }
 
--- one test more behind one that holds
-pub tells_both : {P Q : Type 0} {b : Bool} → P → Tells Q b → Tells (P × Q) b
-tells_both p t = record { holds = λ e. (p, t.holds e); fails = λ e q. t.fails e q.1 }
-
 -- `passes`: what the check answered
 module _ (S : ℕ) (es row path : List ℕ) where
-  pub pass_yes : CheckPromise (asked S es row row 2) path check.Yes → Tells (Passing S es row path) true
+  pub pass_yes : CheckPromise (asked S es row row 2) path (Ok true) → Tells (Passing S es row path) true
   pass_yes c = tells_yes c.says
 
-  pub pass_no : CheckPromise (asked S es row row 2) path check.No → Tells (Passing S es row path) false
+  pub pass_no : CheckPromise (asked S es row row 2) path (Ok false) → Tells (Passing S es row path) false
   pass_no c = tells_no c.says
 
-  pub pass_refused : (n : ℕ) → Readable S es row → CheckPromise (asked S es row row 2) path (check.Refused n) → ⊥
+  pub pass_refused : (n : Refusal) → Readable S es row → CheckPromise (asked S es row row 2) path (Err n) → ⊥
   unfolding bad_level
   pass_refused n r c =
       let none : refusal_of (question_causes S es row row) ≡ 0 = question_fine S es row row r.table r.valid r.valid in
-      none_applies (causes (asked S es row row 2)) (causes_rise (asked S es row row 2)) (not_15 S es row row (bad_level 2) 0 (sym none) refl refl) n (c.number.applies (λ e. omega (arith, c.says)))
+      none_applies (causes (asked S es row row 2)) (causes_rise (asked S es row row 2)) (not_15 S es row row (bad_level 2) none refl) (number_of n) (c.number.applies (λ e. omega (arith, c.says)))
+
+  pub passes_told : (b : Bool) → CheckPromise (asked S es row row 2) path (Ok b) → Tells (Passing S es row path) b
+  passes_told true c = pass_yes c
+  passes_told false c = pass_no c
 
 -- what a list that passes has: an entry, and at each a state where the row is true
 module _ (S : ℕ) (es row : List ℕ) where
@@ -82,13 +83,6 @@ module _ (S : ℕ) (es row : List ℕ) where
   -- `leads_back`: the last state and the one at the place, as a list of two
   pub pair_leads : (path : List ℕ) (k : ℕ) (b : Bool) → Passing S es row path → k < length path → Tells (Passing S es row (last path ∷ at path k ∷ [])) b → Tells (LeadsBack es path k) b
   pair_leads path k b w h = tells_map (λ p. (h, p.1)) (λ q. (passing_at path w (length path - 1) (omega (arith, passing_some path w)), q.1, passing_at path w k h))
-
--- `ends`
-pub falls_told : (es : List ℕ) (left : ℕ → ℕ) (path : List ℕ) (e : Ending) → e ≡ Falls → Tells (EndsBy es left path e) (eqb (left (last path)) 0)
-falls_told es left path e is = subst (λ (x : Ending). Tells (EndsBy es left path x) (eqb (left (last path)) 0)) (sym is) (record { holds = eqb-true (left (last path)) 0; fails = eqb-false (left (last path)) 0 })
-
-pub back_told : (es : List ℕ) (left : ℕ → ℕ) (path : List ℕ) (e : Ending) (k : ℕ) (b : Bool) → e ≡ Back k → Tells (LeadsBack es path k) b → Tells (EndsBy es left path e) b
-back_told es left path e k b is = subst (λ (x : Ending). Tells (LeadsBack es path k) b → Tells (EndsBy es left path x) b) (sym is) (λ t. t)
 
 -- `drawn`: the row "not right"
 module _ (S : ℕ) (right : List ℕ) where

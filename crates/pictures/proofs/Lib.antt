@@ -2,7 +2,6 @@ pub mod Ends
 pub mod Closing
 pub mod Walking
 pub mod Exists
-pub mod Finding
 pub mod Marking
 pub mod OnWalk
 pub mod Checks

@@ -1,78 +1,56 @@
 // Whether a list and its ending are a picture, by the check of `paths`: with the row "not right" on both sides it says at level 2 that the
 // entries are states, joined by transitions, and the right value 0 at all of them.
-ghost use Rattle.std.specs.Prelude.{◌≤◌, length};
 ghost use Rattle.lists.specs.Entries.{at};
-ghost use Rattle.values.specs.Rows.{value_at};
-ghost use Rattle.pictures.specs.Pictures.{Drawn, EndsBy, LeadsBack};
-ghost use Rattle.pictures.specs.Inside.{Readable, Passing, Tells};
+ghost use Rattle.pictures.specs.Inside.{Readable, Readable-prop};
 
 use crate::Ending;
-use kripke::rows::opposite_row;
-use paths::CheckAnswer;
 use values::limits::MOST_STATES;
-use values::rows::row_size;
 
-fn passes(states: usize, transitions: &[u16], row: &[u8], path: &[u16]) -> bool
-    requires { Readable states transitions.now row.now }
-    ensures { Tells (Passing states transitions.now row.now path.now) result }
-{
-    match paths::check(states, transitions, row, row, 2, path) {
-        CheckAnswer::Yes => true,
-        CheckAnswer::No => false,
-        CheckAnswer::Refused(_) => false,
-    }
+// Transitions and the row "not right", which no check refuses.
+#[derive(Clone, Copy)]
+pub(crate) struct Denied<'a> {
+    pub(crate) states: usize,
+    pub(crate) transitions: &'a [u16],
+    pub(crate) row: &'a [u8],
+    pub(crate) ghost readable: { Readable states transitions.now row.now } by { Readable-prop states transitions.now row.now },
 }
 
-// Whether place k is in the list and the last state has a transition to it.
-fn leads_back(states: usize, transitions: &[u16], row: &[u8], path: &[u16], k: usize) -> bool
-    requires { Readable states transitions.now row.now × Passing states transitions.now row.now path.now }
-    ensures { Tells (LeadsBack transitions.now path.now k) result }
-{
-    let n = path.len();
-    if n <= k {
-        return false;
-    }
-    let pair = [path[n - 1], path[k]];
-    passes(states, transitions, row, &pair)
-}
+impl<'a> Denied<'a> {
+    ghost use Rattle.pictures.specs.Inside.{Passing, Tells};
+    ghost use Rattle.pictures.specs.Pictures.{EndsBy, LeadsBack};
 
-// Whether a list passes and ends so.
-fn ends(
-    states: usize,
-    transitions: &[u16],
-    left: &[u8],
-    row: &[u8],
-    path: &[u16],
-    ending: Ending,
-) -> bool
-    requires { Readable states transitions.now row.now × (states ≤ length left.now) }
-    ensures { Tells (Passing states transitions.now row.now path.now × EndsBy transitions.now (at left.now) path.now ending) result }
-{
-    if !passes(states, transitions, row, path) {
-        return false;
-    }
-    match ending {
-        Ending::Falls => {
-            let last = path[path.len() - 1] as usize;
-            left[last] == 0
+    // kept: matched, and no unwrap_or: that such tables and such a row are not refused is shown in the arm of the refusal.
+    fn passes(&self, path: &[u16]) -> bool
+        ensures { Tells (Passing self.now.states self.now.transitions.now self.now.row.now path.now) result }
+    {
+        match paths::check(self.states, self.transitions, self.row, self.row, 2, path) {
+            Ok(is) => is,
+            Err(_) => false,
         }
-        Ending::Back(k) => leads_back(states, transitions, row, path, k),
     }
-}
 
-pub(crate) fn drawn<'a>(
-    states: usize,
-    transitions: &[u16],
-    left: &'a [u8],
-    right: &'a [u8],
-    path: &[u16],
-    ending: Ending,
-) -> bool
-    requires { Readable states transitions.now right.now × (states ≤ length left.now) }
-    ensures { Tells (Drawn states transitions.now (at left.now) (value_at right.now) path.now ending) result }
-{
-    let mut row = [0u8; MOST_STATES];
-    opposite_row(states, right, &mut row);
-    let size = row_size(states);
-    ends(states, transitions, left, &row[..size], path, ending)
+    // Whether place k is in the list and the last state has a transition to it.
+    fn leads_back(&self, path: &[u16], k: usize) -> bool
+        requires { Passing self.now.states self.now.transitions.now self.now.row.now path.now }
+        ensures { Tells (LeadsBack self.now.transitions.now path.now k) result }
+    {
+        let n = path.len();
+        if n <= k {
+            return false;
+        }
+        self.passes(&[path[n - 1], path[k]])
+    }
+
+    // Whether a list passes and ends so, with these left values.
+    pub(crate) fn ends(&self, left: &[u8; MOST_STATES], path: &[u16], ending: Ending) -> bool
+        ensures { Tells (Passing self.now.states self.now.transitions.now self.now.row.now path.now × EndsBy self.now.transitions.now (at left.now) path.now ending) result }
+    {
+        if !self.passes(path) {
+            return false;
+        }
+        match ending {
+            Ending::Falls => left[path[path.len() - 1] as usize] == 0,
+            Ending::Back(k) => self.leads_back(path, k),
+        }
+    }
 }

@@ -1,19 +1,17 @@
--- `next` meets its contract: a refusal, or what `next_from` found.
+-- `next` meets its contract: a refusal, or what `Question::next` found.
 use mathlib.Core.Path.{sym, ◌∙◌}
-use Rattle.kripke.proofs.Reading.{rows_long, tables_taken}
+use Rattle.kripke.proofs.Reading.{tables_taken}
 use Rattle.paths.proofs.Promising.{next_level, next_tables, next_worked}
 use Rattle.paths.proofs.next.Goals as goal
 
-pub returns-then-t-ne0 : goal.returns-then-t-ne0
-returns-then-t-ne0 c = next_tables _ _ _ _ _ _ (tables_taken c.read_tables-t.ensures) c.if-t-ne0.true _
+pub returns-in_err-t : goal.returns-in_err-t
+returns-in_err-t c = next_tables _ _ _ _ _ _ c.in_err-t.ensures _ _ c.from_residual.ensures.1
 
 pub returns-then-bad_level : goal.returns-then-bad_level
-returns-then-bad_level c = next_level _ _ _ _ _ _ (tables_taken c.read_tables-t.ensures) c.if-t-ne0.false _ (sym c.bad_level.ensures ∙ c.if-bad_level.true)
-
-pub next_from-requires : goal.next_from-requires
-next_from-requires c =
-    let k = (tables_taken c.read_tables-t.ensures).taken c.if-t-ne0.false in
-    (record { ready = k.ready; states_in_bounds = rows_long k })
+returns-then-bad_level c = next_level _ _ _ _ _ _ c.in_ok-t.ensures.0 c.in_ok-t.ensures.1 _ (sym c.bad_level.ensures ∙ c.if-bad_level.true)
 
 pub returns : goal.returns
-returns c = next_worked _ _ _ _ _ _ (tables_taken c.read_tables-t.ensures) c.if-t-ne0.false (sym c.bad_level.ensures ∙ c.if-bad_level.false) _ _ _ c.next_from.ensures
+returns c = let q = c.of-question.ensures in next_worked _ _ _ _ _ _ c.in_ok-t.ensures.0 c.in_ok-t.ensures.1 (sym c.bad_level.ensures ∙ c.if-bad_level.false) _ _ _ (rw (q.states, q.transitions, q.left, q.right, q.level) at c.next.ensures)
+
+pub of-question-requires : goal.of-question-requires
+of-question-requires c = (tables_taken c.in_ok-t.ensures.0 c.in_ok-t.ensures.1).ready

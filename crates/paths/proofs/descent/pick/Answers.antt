@@ -1,24 +1,44 @@
--- `pick` meets its contract: a scan of the transitions of s.
-use mathlib.Core.Path.{sym, ◌∙◌}
-use mathlib.Core.Logic.{inl, inr}
+-- `pick` meets its contract: a scan of the successors.
+use Rattle.std.proofs.Common.{◌≡◌, ℕ, ◌<◌, sym, ap, subst, ◌∙◌}
+use mathlib.Core.Logic.{◌⊎◌, inl, inr}
 use native.Mathlib.Omega.{arith}
-use Rattle.paths.proofs.Scans.{fit_here, fit_none, fit_passed}
+use Rattle.lists.specs.Entries.{All, at}
+use Rattle.values.specs.Limits.{most_states}
+use Rattle.lists.proofs.Entries.{all_weaken}
+use Rattle.kripke.specs.Answers.{targets}
+use Rattle.kripke.proofs.Successors.{succs_states}
+use Rattle.paths.specs.Inside.{first_fit}
+use Rattle.paths.proofs.Scans.{fit_here, fit_passed}
 use Rattle.paths.proofs.descent.pick.Goals as goal
-use Rattle.paths.proofs.descent.pick.Goals.{then-above-t+else-distances-t, else-above-t}
+use Rattle.paths.proofs.descent.pick.Goals.{else-above-t-via-then-above-t+else-distances-t, else-above-t-via-else-above-t}
+
+pub loop-t-init : goal.loop-t-init
+loop-t-init c =
+    let x = c.args in
+    let g = x.graph.now in
+    record {
+      fit = ap (first_fit x.distances.now x.want x.above) (ap (λ r. targets r.pairs.now) c.into_iter-t-iterator.ensures.into_iter_gives ∙ c.successors-t-items.ensures);
+      inside = subst (All (λ (t : ℕ). t < most_states)) (sym (ap (λ r. targets r.pairs.now) c.into_iter-t-iterator.ensures.into_iter_gives ∙ c.successors-t-items.ensures)) (all_weaken (λ (t : ℕ). t < g.states) (λ (t : ℕ). t < most_states) (λ t l. omega (arith, g.ready.accepted.few)) _ (succs_states g.states g.transitions.now g.ready.accepted.graph x.s));
+    }
 
 pub returns-then-distances-t : goal.returns-then-distances-t
-returns-then-distances-t c = sym (sym c.loop-k.invariant.1 ∙ fit_here _ _ _ _ _ _ _ c.loop-k-test.true c.if-above-t.true c.if-distances-t.true)
+returns-then-distances-t c =
+    let x = c.args in
+    sym (fit_here x.distances.now x.want x.above _ _ c.if-above-t.true c.if-distances-t.true) ∙ ap (first_fit x.distances.now x.want x.above) (sym c.in-Some.ensures.steps) ∙ c.loop-t.invariant.fit
 
-pub loop-k-preserved : goal.loop-k-preserved
-loop-k-preserved c =
-    let l = c.loop-k in
-    let here = c.loop-k-test.true in (
-      record { here = omega arith; last = l.invariant.0.last },
-      elim c.if-above-t.branch [
-        | then-above-t+else-distances-t w ↦ sym (fit_passed _ _ _ _ _ _ _ here (inr w.if-distances-t.false)) ∙ l.invariant.1
-        | else-above-t w ↦ sym (fit_passed _ _ _ _ _ _ _ here (inl w.if-above-t.false)) ∙ l.invariant.1
-      ],
-    )
+pub loop-t-preserved : goal.loop-t-preserved
+loop-t-preserved c =
+    let x = c.args in
+    let g = x.graph.now in
+    let e = c.in-Some.ensures.steps in
+    let pass : (c.in-Some.t < x.above) ⊎ (at x.distances.now c.in-Some.t ≡ x.want → ⊥) = elim c.else-above-t.branch [ else-above-t-via-then-above-t+else-distances-t w ↦ inr w.if-distances-t.false | else-above-t-via-else-above-t w ↦ inl w.if-above-t.false ] in
+    record {
+      fit = sym (ap (first_fit x.distances.now x.want x.above) e ∙ fit_passed x.distances.now x.want x.above _ _ pass) ∙ c.loop-t.invariant.fit;
+      inside = (subst (All (λ (t : ℕ). t < most_states)) e c.loop-t.invariant.inside).1;
+    }
 
 pub returns : goal.returns
-returns c = sym (sym c.loop-k.invariant.1 ∙ fit_none _ _ _ _ _ _ _ c.loop-k-test.false)
+unfolding first_fit
+returns c =
+    let x = c.args in
+    ap (first_fit x.distances.now x.want x.above) (sym c.in-None.ensures.steps.0) ∙ c.loop-t.invariant.fit

@@ -1,13 +1,14 @@
--- `pick` meets its contract: a scan of the transitions of s.
-use mathlib.Core.Path.{◌≡◌}
-use Prim.Native.Nat.{◌-◌}
-use Rattle.kripke.specs.Transitions.{ends, succs}
+-- `pick` meets its contract: what is still to come has the same first that fits, and every successor has a distance.
+use Rattle.std.proofs.Common.{◌≡◌, ℕ, ◌<◌}
+use Rattle.lists.specs.Entries.{All}
+use Rattle.kripke.specs.Answers.{targets}
+use Rattle.values.specs.Limits.{most_states}
+use Rattle.kripke.specs.Transitions.{succs}
 use Rattle.paths.specs.Inside.{first_fit}
-use Rattle.paths.proofs.Scans.{Scan}
 use Rattle.paths.proofs.descent.pick.Given as goal
 
-abbrev pub invariant-loop-k : goal.invariant-loop-k
-invariant-loop-k l = Scan l.transitions l.end l.k × (first_fit l.states l.distances l.want l.above (ends l.transitions l.k (l.end - l.k)) ≡ first_fit l.states l.distances l.want l.above (succs l.transitions l.s))
-
-abbrev pub decreases-loop-k : goal.decreases-loop-k
-decreases-loop-k l = l.end - l.k
+abbrev pub invariant-loop-t : goal.invariant-loop-t
+invariant-loop-t l = record {
+  fit : first_fit l.distances l.want l.above (targets l.t-iterator.pairs.now) ≡ first_fit l.distances l.want l.above (succs l.graph.transitions.now l.s);
+  inside : All (λ (t : ℕ). t < most_states) (targets l.t-iterator.pairs.now);
+}

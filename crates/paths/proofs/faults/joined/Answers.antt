@@ -1,14 +1,14 @@
--- `joined` meets its contract: a scan of the transitions of s.
-use mathlib.Core.Path.{sym, ◌∙◌}
-use native.Mathlib.Omega.{arith}
-use Rattle.paths.proofs.Scans.{has_here, has_none, has_passed}
+-- `joined` meets its contract: a chain over the successors.
+use Rattle.std.proofs.Common.{ℕ, rules}
+use borrow.Author.Tests.{tests}
+use lib.Dec.{eqb}
+use Rattle.std.proofs.lemmas.Iterator.Consumers.{YieldsList-from_first}
+use Rattle.std.proofs.lemmas.Iterator.Search.{any_from_yields_List}
+use Rattle.kripke.specs.Answers.{targets}
+use Rattle.kripke.specs.declared.lent.Ends.{Ends}
+use Rattle.paths.specs.Inside.{has}
 use Rattle.paths.proofs.faults.joined.Goals as goal
 
-pub returns-then-to-t : goal.returns-then-to-t
-returns-then-to-t c = sym (sym c.loop-k.invariant.1 ∙ has_here _ _ _ _ c.loop-k-test.true c.if-to-t.true)
-
-pub loop-k-preserved : goal.loop-k-preserved
-loop-k-preserved c = (record { here = omega arith; last = c.loop-k.invariant.0.last }, sym (has_passed _ _ _ _ c.loop-k-test.true c.if-to-t.false) ∙ c.loop-k.invariant.1)
-
 pub returns : goal.returns
-returns c = sym (sym c.loop-k.invariant.1 ∙ has_none _ _ _ _ c.loop-k-test.false)
+unfolding has
+returns c = any_from_yields_List (λ (x : ℕ). eqb x c.args.t) c.any.new.self _ _ c.any.ensures.ran (YieldsList-from_first (λ (x : ℕ). x) (λ (s : Ends). targets s.pairs.now) _ c.successors.ensures) (λ x b q k. search (rules, tests))
