@@ -9,7 +9,7 @@ use Rattle.lists.proofs.Placed.{put_then}
 use Rattle.formula.specs.Tree.{Formula}
 use Rattle.formula.specs.Text.{closing, text_of}
 use Rattle.formula.specs.declared.parts.Node.{Node}
-use Rattle.formula.specs.InsidePrinting.{Sort, sort_of, takes, front, inner, NodeAt, MiddleFits, Writable, Written}
+use Rattle.formula.specs.InsidePrinting.{Sort, sort_of, takes, front, inner, NodeAt, Writable, Written}
 use Rattle.formula.proofs.Sizes.{length_joined}
 use Rattle.formula.proofs.Standing.{stands_whole}
 use Rattle.formula.proofs.Roots.{PairRoot, pair_root}
@@ -89,12 +89,12 @@ module _ {nodes text now : List ℕ} {k place end : ℕ} {node : Node} where
         },
       )
 
-  pub middle_fits : Half nodes text now k place end node → MiddleFits node.kind now end
+  pub middle_fits : Half nodes text now k place end node → end + length (inner (sort_of node.kind)) ≤ length now
   middle_fits h =
       let o = h.opened in
       let r = pair_root nodes k o.writable.first node o.writable.formula o.two_taken o.here o.writable.stands in
       let p = h.one_put.puts r.one_side o.writable.first r.one_stands in
-      record { joins = o.two_taken; room = omega (arith, o.put.ends, p.ends, o.writable.room, h.long, pair_size r) }
+      omega (arith, o.put.ends, p.ends, o.writable.room, h.long, pair_size r)
 
   pub other_below : Joined nodes text now k place end node → (0 < k) × Writable nodes now (k - 1) end
   other_below j =

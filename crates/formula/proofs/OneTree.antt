@@ -4,9 +4,10 @@ use mathlib.Core.Path.{◌≡◌, ap, ap₂, sym, ◌∙◌}
 use mathlib.Core.List.{List}
 use native.Mathlib.Omega.{arith}
 use Rattle.lists.specs.Entries.{at}
+use Rattle.model.specs.Kinds.{kind_of}
 use Rattle.formula.specs.Tree.{Formula, TRUE, ATOM, one, two, size}
 use Rattle.formula.specs.Answers.{PartAt}
-use Rattle.formula.specs.InsidePrinting.{Sort, truth, atom, nothing, prefix, pair, sort_of, Triple, Stands}
+use Rattle.formula.specs.InsidePrinting.{Sort, truth, atom, prefix, pair, sort_of, Triple, Stands}
 use Rattle.formula.proofs.Sizes.{size_some}
 use Rattle.formula.proofs.Standing.{stands_whole, part_stands}
 use Rattle.formula.proofs.Sorts.{sort_in, stands_sort}
@@ -17,11 +18,10 @@ grown truth a f g = TRUE
 grown atom a f g = ATOM a
 grown (prefix p) a f g = one p f
 grown (pair q) a f g = two q f g
-grown nothing a f g = TRUE
 
 unfoldable told : ℕ → List ℕ → ℕ → Formula
 told zero nodes k = TRUE
-told (suc n) nodes k = grown (sort_of (at nodes (3 * k))) (at nodes (3 * k + 1)) (told n nodes (at nodes (3 * k + 1))) (told n nodes (at nodes (3 * k + 2)))
+told (suc n) nodes k = grown (sort_of (kind_of (at nodes (3 * k)))) (at nodes (3 * k + 1)) (told n nodes (at nodes (3 * k + 1))) (told n nodes (at nodes (3 * k + 2)))
 
 by_sort : (n : ℕ) (nodes : List ℕ) (f : Formula) (k first : ℕ) → Stands nodes k first f
     → told (suc n) nodes k ≡ grown (sort_in f) (at nodes (3 * k + 1)) (told n nodes (at nodes (3 * k + 1))) (told n nodes (at nodes (3 * k + 2)))

@@ -1,8 +1,9 @@
 -- What holds of each prefix, of each pair and of each bracket, gone through one by one.
 use mathlib.Core.Path.{◌≡◌, refl, ap}
+use Rattle.model.specs.Kinds.{kind_number}
 use Rattle.formula.specs.Tree.{Prefix, NOT, EX, AX, EF, AF, EG, AG, Pair, AND, EU, AU, OR, IMPLIES}
 use Rattle.formula.specs.Text.{opening}
-use Rattle.formula.specs.Inside.{Bracket, plain, some, every, opened, bracket_of, bracket_number, PairIn}
+use Rattle.formula.specs.Inside.{Bracket, plain, some, every, opened, bracket_of, bracket_kind, PairIn}
 use native.Mathlib.Omega.{arith}
 
 pub each_prefix : (P : Prefix → Type 0) → P NOT → P EX → P AX → P EF → P AF → P EG → P AG → (p : Prefix) → P p
@@ -31,19 +32,9 @@ pub opening_opened : (q : Pair) → opening q ≡ opened (bracket_of q)
 opening_opened = each_pair (λ (q : Pair). opening q ≡ opened (bracket_of q)) refl refl refl refl refl
 
 -- of the pairs that a bracket begins: no other pair has it
-other : (b c : Bracket) (P : Type 0) → (bracket_number b ≡ bracket_number c → ⊥) → b ≡ c → P
-other b c P h e = absurd (h (ap bracket_number e))
+other : (b c : Bracket) (P : Type 0) → (kind_number (bracket_kind b) ≡ kind_number (bracket_kind c) → ⊥) → b ≡ c → P
+other b c P h e = absurd (h (ap (λ (b : Bracket). kind_number (bracket_kind b)) e))
 
 pub each_plain : (P : Pair → Type 0) → P AND → P OR → P IMPLIES → (x : PairIn plain) → P x.pair
 each_plain P a b d x =
     each_pair (λ (q : Pair). bracket_of q ≡ plain → P q) (λ e. a) (other some plain (P EU) (λ e. omega arith)) (other every plain (P AU) (λ e. omega arith)) (λ e. b) (λ e. d) x.pair x.within
-
-pub each_some : (P : Pair → Type 0) → P EU → (x : PairIn some) → P x.pair
-each_some P a x =
-    let not_plain : (q : Pair) → plain ≡ some → P q = λ q. other plain some (P q) (λ e. omega arith) in
-    each_pair (λ (q : Pair). bracket_of q ≡ some → P q) (not_plain AND) (λ e. a) (other every some (P AU) (λ e. omega arith)) (not_plain OR) (not_plain IMPLIES) x.pair x.within
-
-pub each_every : (P : Pair → Type 0) → P AU → (x : PairIn every) → P x.pair
-each_every P a x =
-    let not_plain : (q : Pair) → plain ≡ every → P q = λ q. other plain every (P q) (λ e. omega arith) in
-    each_pair (λ (q : Pair). bracket_of q ≡ every → P q) (not_plain AND) (other some every (P EU) (λ e. omega arith)) (λ e. a) (not_plain OR) (not_plain IMPLIES) x.pair x.within

@@ -11,8 +11,8 @@ use Rattle.formula.specs.Tree.{Formula, size}
 use Rattle.formula.specs.Text.{text_of}
 use Rattle.formula.specs.Nodes.{nodes_of}
 use Rattle.formula.specs.Answers.{Outcome, formula, Accepted, PartAt, Yields, YieldsPart, Prints, tight, unyielded, prints, printed_of, space_after, FormulaPrinted}
-use Rattle.formula.specs.declared.Printed.{Printed}
-use Rattle.formula.specs.declared.Printed.TheVariants.{Bytes}
+use Rattle.std.specs.Prelude.{Result, Ok}
+use Rattle.values.specs.declared.refusal.Refusal.{Refusal}
 use Rattle.formula.proofs.Sizes.{size_some, nodes_length}
 use Rattle.formula.proofs.OneTree.{part_one}
 
@@ -39,7 +39,7 @@ outcome_one one (prints h f y e) (unyielded h' none e') = absurd (none f y)
 outcome_one one (prints h f y e) (prints h' g z e') = e ∙ ap formula (one f g y z) ∙ sym e'
 
 -- any two permitted answers coincide, and what they leave in the space
-pub one_printed : (IsOf : Formula → Type 0) → ((f g : Formula) → IsOf f → IsOf g → f ≡ g) → {before after after' : List ℕ} {r r' : Printed}
+pub one_printed : (IsOf : Formula → Type 0) → ((f g : Formula) → IsOf f → IsOf g → f ≡ g) → {before after after' : List ℕ} {r r' : Result ℕ Refusal}
     → FormulaPrinted IsOf before after r → FormulaPrinted IsOf before after' r' → (r ≡ r') × (after ≡ after')
 one_printed IsOf one {before} p q =
     let e : p.outcome ≡ q.outcome = outcome_one one p.comes q.comes in
@@ -54,19 +54,19 @@ yields_one nodes f g y z =
 pub yields_part_one : (nodes : List ℕ) (k : ℕ) (f g : Formula) → YieldsPart nodes k f → YieldsPart nodes k g → f ≡ g
 yields_part_one nodes k f g y z = (part_one y.2.1 z.2.1).0
 
-pub formula_printed_one : (nodes : List ℕ) {before after after' : List ℕ} {r r' : Printed}
+pub formula_printed_one : (nodes : List ℕ) {before after after' : List ℕ} {r r' : Result ℕ Refusal}
     → FormulaPrinted (Yields nodes) before after r → FormulaPrinted (Yields nodes) before after' r' → (r ≡ r') × (after ≡ after')
 formula_printed_one nodes = one_printed (Yields nodes) (yields_one nodes)
 
-pub part_printed_one : (nodes : List ℕ) (k : ℕ) {before after after' : List ℕ} {r r' : Printed}
+pub part_printed_one : (nodes : List ℕ) (k : ℕ) {before after after' : List ℕ} {r r' : Result ℕ Refusal}
     → FormulaPrinted (YieldsPart nodes k) before after r → FormulaPrinted (YieldsPart nodes k) before after' r' → (r ≡ r') × (after ≡ after')
 part_printed_one nodes k = one_printed (YieldsPart nodes k) (yields_part_one nodes k)
 
 -- printing an accepted formula's list gives back its text
-pub prints_back : {f : Formula} {before after : List ℕ} {r : Printed} → Accepted f → most_formula ≤ length before
-    → FormulaPrinted (Yields (nodes_of f)) before after r → (r ≡ Bytes (length (text_of f))) × (after ≡ fill (text_of f) before)
+pub prints_back : {f : Formula} {before after : List ℕ} {r : Result ℕ Refusal} → Accepted f → most_formula ≤ length before
+    → FormulaPrinted (Yields (nodes_of f)) before after r → (r ≡ Ok (length (text_of f))) × (after ≡ fill (text_of f) before)
 prints_back {f} {before} a h p =
-    let due : FormulaPrinted (Yields (nodes_of f)) before (fill (text_of f) before) (Bytes (length (text_of f))) = record {
+    let due : FormulaPrinted (Yields (nodes_of f)) before (fill (text_of f) before) (Ok (length (text_of f))) = record {
       outcome = formula f;
       comes = prints h f (a, refl) refl;
       answer = refl;

@@ -4,22 +4,24 @@ use mathlib.Core.Path.{◌≡◌, refl, ap, sym, ◌∙◌, subst}
 use mathlib.Core.List.{List}
 use native.Mathlib.Omega.{arith}
 use Rattle.formula.specs.Tree.{Prefix, Pair, Formula, TRUE, ATOM, one, two}
+use Rattle.model.specs.Kinds.{kind_of}
+use Rattle.model.specs.declared.kinds.Kind.TheVariants.{True, Atom}
 use Rattle.formula.specs.declared.parts.Node.{Node}
 use Rattle.formula.specs.InsidePrinting.{prefix, pair, sort_of, takes, NodeAt, Stands}
-use Rattle.formula.proofs.Sorts.{sort_in, stands_sort}
+use Rattle.formula.proofs.Sorts.{sort_in, stands_sort, kind_told, true_kind, atom_kind}
 
 pub node_sort : (nodes : List ℕ) (k first : ℕ) (node : Node) (f : Formula) → NodeAt nodes k node → Stands nodes k first f → sort_of node.kind ≡ sort_in f
-node_sort nodes k first node f t s = ap sort_of (sym t.kind) ∙ stands_sort nodes f k first s
+node_sort nodes k first node f t s = ap sort_of (sym (kind_told node.kind) ∙ ap kind_of (sym t.kind)) ∙ stands_sort nodes f k first s
 
 -- no operand: true, or an atom
 pub data LeafRoot (node : Node) (f : Formula) : Type 0 where
-  is_truth : f ≡ TRUE → node.kind ≡ 0 → node.left ≡ 0 → node.right ≡ 0 → LeafRoot node f
-  is_atom : f ≡ ATOM node.left → node.kind ≡ 1 → node.right ≡ 0 → LeafRoot node f
+  is_truth : f ≡ TRUE → node.kind ≡ True → node.left ≡ 0 → node.right ≡ 0 → LeafRoot node f
+  is_atom : f ≡ ATOM node.left → node.kind ≡ Atom → node.right ≡ 0 → LeafRoot node f
 
 pub leaf_root : (nodes : List ℕ) (k first : ℕ) (node : Node) (f : Formula) → takes (sort_of node.kind) ≡ 0 → NodeAt nodes k node → Stands nodes k first f → LeafRoot node f
 unfolding Stands sort_in
-leaf_root nodes k first node TRUE e t s = is_truth refl (sym t.kind ∙ s.0.kind) (sym t.left ∙ s.0.left) (sym t.right ∙ s.0.right)
-leaf_root nodes k first node (ATOM a) e t s = is_atom (ap ATOM (sym s.0.left ∙ t.left)) (sym t.kind ∙ s.0.kind) (sym t.right ∙ s.0.right)
+leaf_root nodes k first node TRUE e t s = is_truth refl (true_kind node.kind (sym t.kind ∙ s.0.kind)) (sym t.left ∙ s.0.left) (sym t.right ∙ s.0.right)
+leaf_root nodes k first node (ATOM a) e t s = is_atom (ap ATOM (sym s.0.left ∙ t.left)) (atom_kind node.kind (sym t.kind ∙ s.0.kind)) (sym t.right ∙ s.0.right)
 leaf_root nodes k first node (one p f) e t s = absurd (omega (arith, e, ap takes (node_sort nodes k first node (one p f) t s)))
 leaf_root nodes k first node (two q f g) e t s = absurd (omega (arith, e, ap takes (node_sort nodes k first node (two q f g) t s)))
 

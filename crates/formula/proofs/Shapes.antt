@@ -35,11 +35,11 @@ looked_at u =
     (first_of opened is_two (plain ∷ some ∷ every ∷ []) u is_nothing)))
 
 looked_one : (p : Prefix) (v : List ℕ) → looked_at (sign p ++ v) ≡ is_one p
-unfolding looked_at first_of begins
+unfolding looked_at first_of
 looked_one p v = each_prefix (λ (p : Prefix). looked_at (sign p ++ v) ≡ is_one p) refl refl refl refl refl refl refl p
 
 looked_two : (b : Bracket) (v : List ℕ) → looked_at (opened b ++ v) ≡ is_two b
-unfolding looked_at first_of begins
+unfolding looked_at first_of
 looked_two b v = each_bracket (λ (b : Bracket). looked_at (opened b ++ v) ≡ is_two b) refl refl refl b
 
 -- the pair of a bracket that the sign between its parts tells
@@ -49,7 +49,7 @@ joined_at some u = EU
 joined_at every u = AU
 
 joined_own : (q : Pair) (v : List ℕ) → joined_at (bracket_of q) (middle q ++ v) ≡ q
-unfolding joined_at begins
+unfolding joined_at
 joined_own q v = each_pair (λ (q : Pair). joined_at (bracket_of q) (middle q ++ v) ≡ q) refl refl refl refl refl q
 
 -- one middle sign stands behind a left part at most
@@ -70,7 +70,7 @@ two_behind q f g t =
     ∙ ap (λ (x : List ℕ). text_of f ++ x) (append_assoc (middle q) (text_of g ++ closing) t ∙ ap (λ (x : List ℕ). middle q ++ x) (append_assoc (text_of g) closing t)))
 
 looked_text : (g : Formula) (t : List ℕ) → looked_at (text_of g ++ t) ≡ shape_of g
-unfolding looked_at first_of begins text_of
+unfolding looked_at first_of text_of
 looked_text TRUE t = refl
 looked_text (ATOM a) t = refl
 looked_text (one p f) t = ap looked_at (one_behind p f t) ∙ looked_one p (text_of f ++ t)
@@ -148,7 +148,7 @@ two_of b v (two q f g) t h =
 
 -- T is that of the constant alone
 pub true_of : (v : List ℕ) (g : Formula) (t : List ℕ) → Begins (84 ∷ v) g t → (g ≡ TRUE) × (t ≡ v)
-unfolding looked_at first_of begins text_of
+unfolding looked_at first_of text_of
 true_of v TRUE t b = (refl, let e : 84 ∷ v ≡ 84 ∷ t = b.spelt in cc)
 true_of v (ATOM a) t b = let e : is_true ≡ is_atom = same_shape _ _ (ATOM a) t refl b.spelt in absurd (let z : ◌≡◌ {A = ℕ} 0 1 = cc in omega arith)
 true_of v (one p f) t b = let e : is_true ≡ is_one p = same_shape _ _ (one p f) t refl b.spelt in absurd (let z : ◌≡◌ {A = ℕ} 0 1 = cc in omega arith)
@@ -163,7 +163,7 @@ pub record AtomOf (v : List ℕ) (g : Formula) (t : List ℕ) : Type 0 where
   pub stops : Stops t
 
 pub atom_of : (v : List ℕ) (g : Formula) (t : List ℕ) → Begins (112 ∷ v) g t → AtomOf v g t
-unfolding looked_at first_of begins text_of AtomsBelow
+unfolding looked_at first_of text_of AtomsBelow
 atom_of v TRUE t b = let e : is_atom ≡ is_true = same_shape _ _ TRUE t refl b.spelt in absurd (let z : ◌≡◌ {A = ℕ} 0 1 = cc in omega arith)
 atom_of v (ATOM a) t b = record { number = a; is = refl; named = b.named; spelt = (let e : 112 ∷ v ≡ 112 ∷ (decimal a ++ t) = b.spelt in cc); stops = b.stops }
 atom_of v (one p f) t b = let e : is_atom ≡ is_one p = same_shape _ _ (one p f) t refl b.spelt in absurd (let z : ◌≡◌ {A = ℕ} 0 1 = cc in omega arith)

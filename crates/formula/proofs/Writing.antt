@@ -1,49 +1,32 @@
 -- The text of a formula put piece by piece: that the space has room for each piece, and that together they are the text.
-use Prim.Native.Nat.{ℕ, ◌+◌, ◌-◌, ◌<◌, ◌≤◌}
+use Prim.Native.Nat.{ℕ, ◌+◌, ◌-◌, ◌*◌, ◌<◌, ◌≤◌}
 use mathlib.Core.Path.{◌≡◌, ap, sym, ◌∙◌, subst}
-use mathlib.Core.List.{List, ◌++◌, [], append-nil, append_assoc}
+use mathlib.Core.List.{List, ◌++◌}
 use native.Mathlib.Omega.{arith}
-use lib.ListN.{length, take, drop, length-drop, drop_of_length-le}
+use lib.ListN.{length}
 use Rattle.lists.specs.Rows.{Put}
 use Rattle.lists.proofs.Placed.{put_then}
+use Rattle.lists.specs.Entries.{at}
+use Rattle.values.specs.Limits.{greatest_kind}
+use Rattle.model.specs.declared.kinds.Kind.{Kind}
 use Rattle.formula.specs.Tree.{Formula, TRUE, ATOM, one, two}
 use Rattle.formula.specs.Text.{text_of}
 use Rattle.formula.specs.declared.parts.Node.{Node}
-use Rattle.formula.specs.InsidePrinting.{Sort, sort_of, takes, front, leaf_text, NodeAt, Stands, OpeningFits, LeafFits, Writable, Written}
+use Rattle.formula.specs.InsidePrinting.{Sort, sort_of, takes, front, leaf_text, NodeAt, Stands, LeafFits, Writable, Written}
 use Rattle.formula.proofs.Sizes.{length_prefixed, length_joined}
-use Rattle.formula.proofs.Sorts.{sort_in, takes_few}
+use Rattle.formula.proofs.Sorts.{sort_in, stands_known}
 use Rattle.formula.proofs.Roots.{node_sort, LeafRoot, is_truth, is_atom, leaf_root, PrefixRoot, prefix_root}
-use lib.Seq.{take_all, take-length, drop-drop}
-
--- ---- no operand
-
--- bytes copied to the front of the rest of a space
-pub put_copied : {bytes text part : List ℕ} {place n : ℕ} → place + length bytes ≤ length text → n ≡ length bytes
-    → part ≡ take (length bytes) bytes ++ drop (length bytes) (take (length text - place) (drop place text))
-    → Put text (take place text ++ (part ++ drop (length text - place) (drop place text))) place (place + n) bytes
-put_copied {bytes} {text} {part} {place} {n} h e copied =
-    let left = length-drop place text in
-    let whole : take (length text - place) (drop place text) ≡ drop place text = take_all (length text - place) (drop place text) (omega arith) in
-    let none : drop (length text - place) (drop place text) ≡ [] = drop_of_length-le (drop place text) {i = length text - place} (omega arith) in
-    let put : part ≡ bytes ++ drop (place + length bytes) text =
-    copied ∙ rw (take-length bytes, whole) (ap (λ (l : List ℕ). bytes ++ l) (drop-drop (length bytes) place text)) in
-    record {
-      ends = ap (λ (x : ℕ). place + x) e;
-      begins = omega arith;
-      lays = ap (λ (l : List ℕ). take place text ++ (part ++ l)) none ∙ ap (λ (l : List ℕ). take place text ++ l) (append-nil part ∙ put)
-          ∙ sym (append_assoc (take place text) bytes (drop (place + length bytes) text));
-    }
 
 -- ---- no operand
 
 leaf_text_lem : (nodes : List ℕ) (k first : ℕ) (node : Node) (f : Formula) → takes (sort_of node.kind) ≡ 0 → NodeAt nodes k node → Stands nodes k first f
     → text_of f ≡ leaf_text (sort_of node.kind) node.left
-unfolding text_of sort_of
+unfolding text_of
 leaf_text_lem nodes k first node f e t s = go (leaf_root nodes k first node f e t s)
   where
     go : LeafRoot node f → text_of f ≡ leaf_text (sort_of node.kind) node.left
-    go (is_truth w a b c) = ap text_of w ∙ ap (λ (x : ℕ). leaf_text (sort_of x) node.left) (sym a)
-    go (is_atom w a c) = ap text_of w ∙ ap (λ (x : ℕ). leaf_text (sort_of x) node.left) (sym a)
+    go (is_truth w a b c) = ap text_of w ∙ ap (λ (x : Kind). leaf_text (sort_of x) node.left) (sym a)
+    go (is_atom w a c) = ap text_of w ∙ ap (λ (x : Kind). leaf_text (sort_of x) node.left) (sym a)
 
 pub leaf_fits : {nodes text : List ℕ} {k place : ℕ} {node : Node} → Writable nodes text k place → takes (sort_of node.kind) ≡ 0 → NodeAt nodes k node → LeafFits node text place
 leaf_fits {nodes} {text} {k} {place} {node} w e t = record {
@@ -57,6 +40,10 @@ leaf_written {nodes} {before} {after} {k} {place} {end} {node} e t p = record {
   puts = λ f first s. subst (Put before after place end) (sym (leaf_text_lem nodes k first node f e t s)) p;
 }
 
+-- a node of no kind, whose formula there is none
+pub unread_written : {nodes before after : List ℕ} {k place end : ℕ} → greatest_kind < at nodes (3 * k) → Written nodes k before after place end
+unread_written {nodes} {k = k} h = record { puts = λ f first s. absurd (omega (arith, h, stands_known nodes f k first s)) }
+
 -- ---- in front of the first operand
 
 front_within : (f : Formula) → length (front (sort_in f)) ≤ length (text_of f)
@@ -66,24 +53,11 @@ front_within (ATOM a) = omega arith
 front_within (one p f) = omega (arith, length_prefixed p f)
 front_within (two q f g) = omega (arith, length_joined q f g)
 
-pub opening_fits : {nodes text : List ℕ} {k place : ℕ} {node : Node} → Writable nodes text k place → (takes (sort_of node.kind) ≡ 0 → ⊥) → NodeAt nodes k node
-    → OpeningFits node.kind text place
-opening_fits {nodes} {text} {k} {place} {node} w h t =
+pub opening_fits : {nodes text : List ℕ} {k place : ℕ} {node : Node} → Writable nodes text k place → NodeAt nodes k node
+    → place + length (front (sort_of node.kind)) ≤ length text
+opening_fits {nodes} {text} {k} {place} {node} w t =
     let e : sort_of node.kind ≡ sort_in w.formula = node_sort nodes k w.first node w.formula t w.stands in
-    let few = takes_few w.formula in
-    let same = ap takes e in
-    record {
-      signed = record { some = omega arith; known = omega arith };
-      room = omega (arith, ap (λ (s : Sort). length (front s)) e, front_within w.formula, w.room);
-    }
-
--- two operands are all that is left where some operand is, and not one
-pub both_left : {nodes text : List ℕ} {k place : ℕ} {node : Node} → Writable nodes text k place → NodeAt nodes k node
-    → (takes (sort_of node.kind) ≡ 0 → ⊥) → (takes (sort_of node.kind) ≡ 1 → ⊥) → takes (sort_of node.kind) ≡ 2
-both_left {nodes} {text} {k} {place} {node} w t h j =
-    let few = takes_few w.formula in
-    let same = ap takes (node_sort nodes k w.first node w.formula t w.stands) in
-    omega arith
+    omega (arith, ap (λ (s : Sort). length (front s)) e, front_within w.formula, w.room)
 
 -- ---- one operand
 
@@ -115,12 +89,3 @@ prefix_written {nodes} {text} {now} {after} {k} {place} {mid} {end} {node} e t p
       let r = prefix_root nodes k first node f e t s in
       subst (Put text after place end) (sym (prefix_text r)) (put_then p (q.puts r.under first r.stands));
 }
-
--- ---- a table's line
-
-pub line_room : (g : Sort → List ℕ) {kind : ℕ} (known place room : ℕ) → kind ≡ known → place + length (g (sort_of kind)) ≤ room → place + length (g (sort_of known)) ≤ room
-line_room g known place room e = subst (λ (k : ℕ). place + length (g (sort_of k)) ≤ room) e
-
-pub line_put : (g : Sort → List ℕ) {kind : ℕ} {text after : List ℕ} {place end : ℕ} (known : ℕ) → kind ≡ known
-    → Put text after place end (g (sort_of known)) → Put text after place end (g (sort_of kind))
-line_put g {text = text} {after} {place} {end} known e = subst (λ (k : ℕ). Put text after place end (g (sort_of k))) (sym e)

@@ -1,37 +1,62 @@
 -- What the readers ask of one another and answer; no promise of a public call cites these.
-use Rattle.std.specs.Prelude.{◌≡◌, ℕ, ◌+◌, ◌*◌, ◌<◌, ◌≤◌, List, [], ◌∷◌, ◌++◌, Bool, true, false, cond, ◌&&◌, ◌⊎◌, length, drop, eqb, ltb, leb}
+use Rattle.std.specs.Prelude.{◌≡◌, ℕ, ◌+◌, ◌*◌, ◌<◌, ◌≤◌, List, [], ◌∷◌, ◌++◌, Bool, true, false, cond, ◌&&◌, Option, Some, None, MatchOption, length, drop, eqb, leb}
+use Rattle.std.specs.List.{starts_with}
 use Rattle.lists.specs.Rows.{Put}
-use Rattle.values.specs.Limits.{most_atoms, most_formula, most_nodes, most_node_numbers}
+use Rattle.values.specs.Limits.{most_atoms, most_nodes}
 use Rattle.values.specs.Signs.{decimal}
-use Rattle.formula.specs.Tree.{Pair, AND, EU, AU, OR, IMPLIES, Formula, TRUE, ATOM, one, two, size, Named}
+use Rattle.model.specs.Kinds.{kind_of}
+use Rattle.model.specs.declared.kinds.Kind.{Kind}
+use Rattle.model.specs.declared.kinds.Kind.TheVariants.{And, Eu, Au}
+use Rattle.formula.specs.Tree.{Prefix, Pair, AND, EU, AU, OR, IMPLIES, Formula, TRUE, ATOM, one, two, size, Named}
 use Rattle.formula.specs.Text.{middle, text_of}
-use Rattle.formula.specs.Nodes.{pair_kind, nodes_from}
+use Rattle.formula.specs.Nodes.{prefix_kind, pair_kind, nodes_from}
 use Rattle.formula.specs.declared.signs.Sign.{Sign}
 use Rattle.formula.specs.declared.atoms.Atom.{Atom}
-use Rattle.formula.specs.declared.atoms.Atom.TheVariants as atom
-use Rattle.formula.specs.declared.reading.Parsed.{Parsed}
-use Rattle.formula.specs.declared.reading.Parsed.TheVariants as parsed
+use Rattle.formula.specs.declared.place.Place.{Place}
 
 -- whether a text begins with these bytes
-unfoldable pub begins : List ℕ → List ℕ → Bool
-begins [] u = true
-begins (c ∷ cs) [] = false
-begins (c ∷ cs) (d ∷ u) = eqb d c && begins cs u
+abbrev pub begins : List ℕ → List ℕ → Bool
+begins k u = starts_with eqb u k
 
 -- whether a byte is one of 0 to 9
 abbrev pub is_digit : ℕ → Bool
 is_digit c = leb 48 c && leb c 57
+
+-- a byte is the digit d
+pub record IsDigit (c d : ℕ) : Type 0 where
+  pub test : is_digit c ≡ true
+  pub byte : c ≡ 48 + d
+  pub small : d < 10
 
 -- a text doesn't go on with a digit
 abbrev pub Stops : List ℕ → Type 0
 Stops [] = Unit {0}
 Stops (c ∷ u) = is_digit c ≡ false
 
--- what stands at a place: a sign with its kind, size 0 where there is none
-abbrev pub SignAt : {A : Type 0} → (A → List ℕ) → (A → ℕ) → List ℕ → ℕ → Sign → Type 0
-SignAt {A} sign_of kind_of s place r =
-    ((a : A) × (begins (sign_of a) (drop place s) ≡ true) × (r.kind ≡ kind_of a) × (r.size ≡ length (sign_of a)))
-    ⊎ (((a : A) → begins (sign_of a) (drop place s) ≡ false) × (r.size ≡ 0))
+-- a text begins with a sign, of this kind and size
+pub record SignIs {A : Type 0} (sign_of : A → List ℕ) (named : A → Kind) (u : List ℕ) (x : Sign) : Type 0 where
+  pub which : A
+  pub stands : begins (sign_of which) u ≡ true
+  pub kind : x.kind ≡ named which
+  pub size : x.size ≡ length (sign_of which)
+  pub inside : x.size ≤ length u
+
+-- with none of the signs
+abbrev pub NoSign : {A : Type 0} → (A → List ℕ) → List ℕ → Type 0
+NoSign {A} sign_of u = (a : A) → begins (sign_of a) u ≡ false
+
+-- what a text begins with: one of the signs, or none
+abbrev pub SignAt : {A : Type 0} → (A → List ℕ) → (A → Kind) → List ℕ → Option Sign → Type 0
+SignAt sign_of named u r = MatchOption r (NoSign sign_of u) (λ x. SignIs sign_of named u x)
+
+-- the first sign of a table that a text begins with
+unfoldable pub first_of : List (List ℕ × Kind) → List ℕ → Option Sign
+first_of [] u = None
+first_of (row ∷ rows) u = cond (begins row.0 u) (Some (record { kind = row.1; size = length row.0 })) (first_of rows u)
+
+-- the kind of a prefix
+abbrev pub prefix_named : Prefix → Kind
+prefix_named p = kind_of (prefix_kind p)
 
 -- what begins a pair, for which the sign between its parts tells the kind: ( or E( or A(
 pub data Bracket : Type 0 where
@@ -49,11 +74,11 @@ bracket_of AU = every
 bracket_of OR = plain
 bracket_of IMPLIES = plain
 
--- a bracket's number is that of the first kind that it begins
-abbrev pub bracket_number : Bracket → ℕ
-bracket_number plain = 3
-bracket_number some = 5
-bracket_number every = 6
+-- a bracket goes by the first kind that it begins
+abbrev pub bracket_kind : Bracket → Kind
+bracket_kind plain = And
+bracket_kind some = Eu
+bracket_kind every = Au
 
 -- the pairs that a bracket begins
 pub record PairIn (b : Bracket) : Type 0 where
@@ -63,28 +88,30 @@ pub record PairIn (b : Bracket) : Type 0 where
 abbrev pub middle_in : {b : Bracket} → PairIn b → List ℕ
 middle_in x = middle x.pair
 
-abbrev pub kind_in : {b : Bracket} → PairIn b → ℕ
-kind_in x = pair_kind x.pair
+abbrev pub kind_in : {b : Bracket} → PairIn b → Kind
+kind_in x = kind_of (pair_kind x.pair)
 
 -- what stands between the parts of a pair with this bracket
-abbrev pub MiddleAt : Bracket → List ℕ → ℕ → Sign → Type 0
-MiddleAt b s place r = SignAt {A = PairIn b} middle_in kind_in s place r
+abbrev pub MiddleAt : Bracket → List ℕ → Option Sign → Type 0
+MiddleAt b u r = SignAt {A = PairIn b} middle_in kind_in u r
 
--- a number that ends at a place names an atom if it is below the most
-abbrev pub ended_at : ℕ → ℕ → Atom
-ended_at a end = cond (ltb a most_atoms) (atom.Is a end) atom.None
+-- a number of so many bytes names an atom if it is below the most
+abbrev pub EndedAt : ℕ → ℕ → Option Atom → Type 0
+EndedAt a size r = MatchOption r (most_atoms ≤ a) (λ x. (x.number ≡ a) × (x.size ≡ size) × (a < most_atoms))
 
--- the number of an atom at a place, up to its last digit; or there is none
-pub record AtomFound (s : List ℕ) (place a end : ℕ) : Type 0 where
+-- a text begins with the number of an atom, with no digit behind it; or with none
+pub record AtomFound (u : List ℕ) (a size : ℕ) : Type 0 where
   pub named : a < most_atoms
-  pub ahead : place < end
-  pub inside : end ≤ length s
-  pub spelt : drop place s ≡ decimal a ++ drop end s
-  pub stops : Stops (drop end s)
+  pub some : 0 < size
+  pub inside : size ≤ length u
+  pub spelt : u ≡ decimal a ++ drop size u
+  pub stops : Stops (drop size u)
 
-abbrev pub AtomAt : List ℕ → ℕ → Atom → Type 0
-AtomAt s place (atom.Is a end) = AtomFound s place a end
-AtomAt s place atom.None = (a : ℕ) (t : List ℕ) → a < most_atoms → Stops t → drop place s ≡ decimal a ++ t → ⊥
+abbrev pub NoAtom : List ℕ → Type 0
+NoAtom u = (a : ℕ) (t : List ℕ) → a < most_atoms → Stops t → u ≡ decimal a ++ t → ⊥
+
+abbrev pub AtomAt : List ℕ → Option Atom → Type 0
+AtomAt u r = MatchOption r (NoAtom u) (λ x. AtomFound u x.number x.size)
 
 -- a text begins with a formula, and t stands behind it
 pub record Begins (u : List ℕ) (f : Formula) (t : List ℕ) : Type 0 where
@@ -120,26 +147,17 @@ Leaf (two q f g) = ⊥
 abbrev pub NodePut : ℕ → List ℕ → List ℕ → List ℕ → Type 0
 NodePut n node before after = n < most_nodes → Put before after (3 * n) (3 * (n + 1)) node
 
--- a formula was read from a place up to an end; its nodes, from n up to m, stand in the space if there may be so many
-pub record Found (s : List ℕ) (place n : ℕ) (before after : List ℕ) (end m : ℕ) : Type 0 where
+-- a formula was read from the front of a text, v is behind it; its nodes, from n up to m, stand in the space if there may be so many
+pub record Found (u : List ℕ) (n : ℕ) (before after v : List ℕ) (m : ℕ) : Type 0 where
   pub tree : Formula
   pub named : Named tree
-  pub spelt : drop place s ≡ text_of tree ++ drop end s
-  pub only : Only (drop place s) tree (drop end s)
+  pub spelt : u ≡ text_of tree ++ v
+  pub only : Only u tree v
   pub count : m ≡ n + size tree
   pub more : n < m
-  pub ahead : m + place ≤ n + end
-  pub inside : end ≤ length s
+  pub ahead : m + length v ≤ n + length u
   pub put : m ≤ most_nodes → Put before after (3 * n) (3 * m) (nodes_from n tree)
 
 -- the readers' answer, for the formulas of a sort
-abbrev pub Parses : (Formula → Type 0) → List ℕ → ℕ → ℕ → List ℕ → List ℕ → Parsed → Type 0
-Parses Sort s place n before after (parsed.To end m) = Found s place n before after end m
-Parses Sort s place n before after parsed.Not = NoneOf Sort (drop place s)
-
--- where a reader may begin: in the text, with no more nodes than bytes before it
-pub record Placed (s : List ℕ) (place n : ℕ) (space : List ℕ) : Type 0 where
-  pub short : length s ≤ most_formula
-  pub within : place ≤ length s
-  pub few : n ≤ place
-  pub room : length space ≡ most_node_numbers
+abbrev pub Parses : (Formula → Type 0) → List ℕ → ℕ → List ℕ → List ℕ → Option Place → Type 0
+Parses Sort u n before after r = MatchOption r (NoneOf Sort u) (λ x. Found u n before after x.rest.now x.nodes)

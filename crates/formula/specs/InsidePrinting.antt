@@ -1,39 +1,47 @@
--- What the private functions of printing have: what a kind's number tells, a node's three numbers, and a tree that stands in a list; no promise of a public call cites these.
-use Rattle.std.specs.Prelude.{◌≡◌, ℕ, ◌+◌, ◌-◌, ◌*◌, ◌<◌, ◌≤◌, List, [], ◌∷◌, length, get_or}
+-- What the private functions of printing have: what a kind tells, a node's three numbers, and a tree that stands in a list; no promise of a public call cites these.
+use Rattle.std.specs.Prelude.{◌≡◌, ℕ, ◌+◌, ◌-◌, ◌*◌, ◌<◌, ◌≤◌, List, [], ◌∷◌, Option, MatchOption, length}
 use Rattle.lists.specs.Entries.{at}
 use Rattle.lists.specs.Rows.{Put}
-use Rattle.values.specs.Limits.{most_nodes, most_formula, most_node_numbers}
+use Rattle.values.specs.Limits.{greatest_kind, most_nodes, most_formula, most_node_numbers}
 use Rattle.values.specs.Signs.{decimal}
+use Rattle.model.specs.Kinds.{kind_number}
+use Rattle.model.specs.declared.kinds.Kind.{Kind}
+use Rattle.model.specs.declared.kinds.Kind.TheVariants.{True, Atom, Not, And, Ex, Eu, Au, Or, Implies, Ax, Ef, Af, Eg, Ag}
 use Rattle.formula.specs.Tree.{Prefix, NOT, EX, AX, EF, AF, EG, AG, Pair, AND, EU, AU, OR, IMPLIES, Formula, TRUE, ATOM, one, two, Named}
 use Rattle.formula.specs.Text.{constant, letter, sign, opening, middle, closing, text_of}
 use Rattle.formula.specs.Nodes.{prefix_kind, pair_kind}
 use Rattle.formula.specs.Answers.{YieldsPart}
 use Rattle.formula.specs.declared.parts.Node.{Node}
 use Rattle.formula.specs.declared.parts.Part.{Part}
-use Rattle.formula.specs.declared.parts.Part.TheVariants as part
 
--- what a kind's number tells: true, an atom, what stands before one formula, what joins two, or that there is no such kind
+-- what a kind tells: true, an atom, what stands before one formula, or what joins two
 pub data Sort : Type 0 where
-  truth atom nothing : Sort
+  truth atom : Sort
   prefix : Prefix → Sort
   pair : Pair → Sort
 
--- the kinds by their numbers, from 0
-abbrev pub sorts : List Sort
-sorts =
-    truth ∷ atom ∷ prefix NOT ∷ pair AND ∷ prefix EX ∷ pair EU ∷ pair AU ∷ pair OR ∷ pair IMPLIES
-    ∷ prefix AX ∷ prefix EF ∷ prefix AF ∷ prefix EG ∷ prefix AG ∷ []
+abbrev pub sort_of : Kind → Sort
+sort_of True = truth
+sort_of Atom = atom
+sort_of Not = prefix NOT
+sort_of And = pair AND
+sort_of Ex = prefix EX
+sort_of Eu = pair EU
+sort_of Au = pair AU
+sort_of Or = pair OR
+sort_of Implies = pair IMPLIES
+sort_of Ax = prefix AX
+sort_of Ef = prefix EF
+sort_of Af = prefix AF
+sort_of Eg = prefix EG
+sort_of Ag = prefix AG
 
-unfoldable pub sort_of : ℕ → Sort
-sort_of k = get_or sorts k nothing
-
--- how many operands it has; of no kind, more than any
+-- how many operands it has
 abbrev pub takes : Sort → ℕ
 takes truth = 0
 takes atom = 0
 takes (prefix p) = 1
 takes (pair q) = 2
-takes nothing = 3
 
 -- the signs in front of the first operand, and between the two
 abbrev pub front : Sort → List ℕ
@@ -41,14 +49,12 @@ front (prefix p) = sign p
 front (pair q) = opening q
 front truth = []
 front atom = []
-front nothing = []
 
 abbrev pub inner : Sort → List ℕ
 inner (pair q) = middle q
 inner (prefix p) = []
 inner truth = []
 inner atom = []
-inner nothing = []
 
 -- how many signs there are besides the operands
 abbrev pub signs : Sort → ℕ
@@ -56,7 +62,6 @@ signs (prefix p) = length (sign p)
 signs (pair q) = length (opening q) + length (middle q) + length closing
 signs truth = 0
 signs atom = 0
-signs nothing = 0
 
 -- the text of a node without operands
 abbrev pub leaf_text : Sort → ℕ → List ℕ
@@ -64,7 +69,6 @@ leaf_text truth a = constant
 leaf_text atom a = letter ∷ decimal a
 leaf_text (prefix p) a = []
 leaf_text (pair q) a = []
-leaf_text nothing a = []
 
 -- the three numbers of node k
 pub record Triple (nodes : List ℕ) (k a b c : ℕ) : Type 0 where
@@ -72,8 +76,14 @@ pub record Triple (nodes : List ℕ) (k a b c : ℕ) : Type 0 where
   pub left : at nodes (3 * k + 1) ≡ b
   pub right : at nodes (3 * k + 2) ≡ c
 
-abbrev pub NodeAt : List ℕ → ℕ → Node → Type 0
-NodeAt nodes k node = Triple nodes k node.kind node.left node.right
+pub record NodeAt (nodes : List ℕ) (k : ℕ) (node : Node) : Type 0 where
+  pub kind : at nodes (3 * k) ≡ kind_number node.kind
+  pub left : at nodes (3 * k + 1) ≡ node.left
+  pub right : at nodes (3 * k + 2) ≡ node.right
+
+-- `node_at`: the node, or that its first number is no kind's
+abbrev pub NodeRead : List ℕ → ℕ → Option Node → Type 0
+NodeRead nodes k r = MatchOption r (greatest_kind < at nodes (3 * k)) (λ node. NodeAt nodes k node)
 
 -- node k is the whole of a formula whose nodes begin at `first`: its last operand is the node before it, and the one before that ends where this one begins
 unfoldable pub Stands : List ℕ → ℕ → ℕ → Formula → Type 0
@@ -94,13 +104,16 @@ pub record Ended (nodes : List ℕ) (k first bytes : ℕ) : Type 0 where
   pub stands : Stands nodes k first formula
   pub long : bytes ≡ length (text_of formula)
 
+-- no formula ends at node k
+abbrev pub NoneEnded : List ℕ → ℕ → Type 0
+NoneEnded nodes k = (f : Formula) (first : ℕ) → Named f → Stands nodes k first f → ⊥
+
 -- `part_at`: the formula that ends at node k, or that there is none
-pub record PartFound (nodes : List ℕ) (k : ℕ) (r : Part) : Type 0 where
-  pub found : (first bytes : ℕ) → r ≡ part.Of first bytes → Ended nodes k first bytes
-  pub none : r ≡ part.None → (f : Formula) (first : ℕ) → Named f → Stands nodes k first f → ⊥
+abbrev pub PartFound : List ℕ → ℕ → Option Part → Type 0
+PartFound nodes k r = MatchOption r (NoneEnded nodes k) (λ x. Ended nodes k x.first x.bytes)
 
 -- `leaf_part`: the same of a node whose numbers are known
-pub record LeafFound (node : Node) (k : ℕ) (r : Part) : Type 0 where
+pub record LeafFound (node : Node) (k : ℕ) (r : Option Part) : Type 0 where
   pub tells : (nodes : List ℕ) → NodeAt nodes k node → PartFound nodes k r
 
 -- no node has more than six signs, so that no formula has more than these
@@ -113,23 +126,10 @@ pub record PrefixAsked (node : Node) (k bytes : ℕ) : Type 0 where
   pub later : 0 < k
   pub few : bytes ≤ most_signs
 
-pub record PrefixFound (node : Node) (k first bytes : ℕ) (r : Part) : Type 0 where
+pub record PrefixFound (node : Node) (k first bytes : ℕ) (r : Option Part) : Type 0 where
   pub tells : (nodes : List ℕ) → NodeAt nodes k node → Ended nodes (k - 1) first bytes → PartFound nodes k r
 
--- a kind that has signs of its own
-pub record Signed (kind : ℕ) : Type 0 where
-  pub some : 0 < takes (sort_of kind)
-  pub known : takes (sort_of kind) < 3
-
--- `put_opening`, `put_middle` and `write_leaf`: the space has room for what they put
-pub record OpeningFits (kind : ℕ) (text : List ℕ) (place : ℕ) : Type 0 where
-  pub signed : Signed kind
-  pub room : place + length (front (sort_of kind)) ≤ length text
-
-pub record MiddleFits (kind : ℕ) (text : List ℕ) (place : ℕ) : Type 0 where
-  pub joins : takes (sort_of kind) ≡ 2
-  pub room : place + length (inner (sort_of kind)) ≤ length text
-
+-- `write_leaf`: the space has room for what it puts
 pub record LeafFits (node : Node) (text : List ℕ) (place : ℕ) : Type 0 where
   pub none : takes (sort_of node.kind) ≡ 0
   pub room : place + length (leaf_text (sort_of node.kind) node.left) ≤ length text
@@ -152,6 +152,5 @@ pub record PartAccepted (nodes : List ℕ) (k first bytes : ℕ) : Type 0 where
   pub found : Ended nodes k first bytes
   pub short : bytes ≤ most_formula
 
-pub record PartYielded (nodes : List ℕ) (k : ℕ) (r : Part) : Type 0 where
-  pub yielded : (first bytes : ℕ) → r ≡ part.Of first bytes → PartAccepted nodes k first bytes
-  pub none : r ≡ part.None → (f : Formula) → YieldsPart nodes k f → ⊥
+abbrev pub PartYielded : List ℕ → ℕ → Option Part → Type 0
+PartYielded nodes k r = MatchOption r ((f : Formula) → YieldsPart nodes k f → ⊥) (λ x. PartAccepted nodes k x.first x.bytes)

@@ -1,80 +1,87 @@
-// The readers of a formula and of a term, which call each other. Each lays the nodes that it reads into a space, numbered on from n.
-ghost use Rattle.formula.specs.Inside.{Placed, Parses, Any, Term, Leaf};
+// The readers of a formula and of a term, which call each other. Each lays the nodes that it reads into a space, numbered on from its place.
+ghost use Rattle.formula.specs.Inside.{Parses, Any, Term, Leaf};
 
-use crate::atoms::{Atom, atom_at};
+use crate::atoms::atom_at;
 use crate::nodes::put_node;
-use crate::signs::{middle_at, opening_at, prefix_at, stands};
-
-#[derive(Drop)]
-pub(crate) enum Parsed {
-    // The place behind it, and the next node's number.
-    To(usize, usize),
-    Not,
-}
+use crate::place::Place;
+use crate::signs::{middle_at, opening_at, prefix_at};
+use model::kinds::Kind;
+use values::limits::MOST_NODE_NUMBERS;
 
 // T or an atom.
-fn leaf(text: &[u8], place: usize, n: usize, space: &mut [u16]) -> Parsed
-    requires { Placed text.now place n space.old }
-    ensures { Parses Leaf text.now place n space.old space.new result }
+fn leaf<'a>(place: Place<'a>, space: &mut [u16; MOST_NODE_NUMBERS]) -> Option<Place<'a>>
+    ensures { Parses Leaf place.entry.rest.now place.entry.nodes space.old space.new result }
 {
-    if stands(b"T", text, place) {
-        put_node(space, n, 0, 0, 0);
-        return Parsed::To(place + 1, n + 1);
+    if place.rest.starts_with(b"T") {
+        put_node(space, place.nodes, Kind::True, 0, 0);
+        return Some(Place {
+            rest: &place.rest[1..],
+            nodes: place.nodes + 1,
+        });
     }
-    if !stands(b"p", text, place) {
-        return Parsed::Not;
+    if !place.rest.starts_with(b"p") {
+        return None;
     }
-    let found = atom_at(text, place + 1);
-    let Atom::Is(number, end) = found else {
-        return Parsed::Not;
-    };
-    put_node(space, n, 1, number as u16, 0);
-    Parsed::To(end, n + 1)
+    let digits = &place.rest[1..];
+    let atom = atom_at(digits)?;
+    put_node(space, place.nodes, Kind::Atom, atom.number as u16, 0);
+    Some(Place {
+        rest: &digits[atom.size..],
+        nodes: place.nodes + 1,
+    })
 }
 
 // A pair in its brackets, or else a leaf.
+// kept: two readers that call each other and hand on a place, a form that a rule of the project names.
 #[cycle(formula_term)]
-fn term(text: &[u8], place: usize, n: usize, space: &mut [u16]) -> Parsed
-    requires { Placed text.now place n space.old }
-    ensures { Parses Term text.now place n space.old space.new result }
+fn term<'a>(place: Place<'a>, space: &mut [u16; MOST_NODE_NUMBERS]) -> Option<Place<'a>>
+    ensures { Parses Term place.entry.rest.now place.entry.nodes space.old space.new result }
 {
-    let opening = opening_at(text, place);
-    if opening.size == 0 {
-        return leaf(text, place, n, space);
-    }
-    let left = formula(text, place + opening.size, n, space);
-    let Parsed::To(behind, m) = left else {
-        return Parsed::Not;
+    let Some(opening) = opening_at(place.rest) else {
+        return leaf(place, space);
     };
-    let middle = middle_at(text, behind, opening.kind);
-    if middle.size == 0 {
-        return Parsed::Not;
-    }
-    let right = formula(text, behind + middle.size, m, space);
-    let Parsed::To(end, k) = right else {
-        return Parsed::Not;
+    let inner = Place {
+        rest: &place.rest[opening.size..],
+        nodes: place.nodes,
     };
-    if !stands(b")", text, end) {
-        return Parsed::Not;
+    let left = formula(inner, space)?;
+    let middle = middle_at(left.rest, opening.kind)?;
+    let behind = Place {
+        rest: &left.rest[middle.size..],
+        nodes: left.nodes,
+    };
+    let right = formula(behind, space)?;
+    if !right.rest.starts_with(b")") {
+        return None;
     }
-    put_node(space, k, middle.kind, (m - 1) as u16, (k - 1) as u16);
-    Parsed::To(end + 1, k + 1)
+    let left_root = (left.nodes - 1) as u16;
+    let right_root = (right.nodes - 1) as u16;
+    put_node(space, right.nodes, middle.kind, left_root, right_root);
+    Some(Place {
+        rest: &right.rest[1..],
+        nodes: right.nodes + 1,
+    })
 }
 
 // Any number of prefixes before one term.
 #[cycle(formula_term)]
-pub(crate) fn formula(text: &[u8], place: usize, n: usize, space: &mut [u16]) -> Parsed
-    requires { Placed text.now place n space.old }
-    ensures { Parses Any text.now place n space.old space.new result }
+pub(crate) fn formula<'a>(
+    place: Place<'a>,
+    space: &mut [u16; MOST_NODE_NUMBERS],
+) -> Option<Place<'a>>
+    ensures { Parses Any place.entry.rest.now place.entry.nodes space.old space.new result }
 {
-    let prefix = prefix_at(text, place);
-    if prefix.size == 0 {
-        return term(text, place, n, space);
-    }
-    let part = formula(text, place + prefix.size, n, space);
-    let Parsed::To(end, m) = part else {
-        return Parsed::Not;
+    let Some(prefix) = prefix_at(place.rest) else {
+        return term(place, space);
     };
-    put_node(space, m, prefix.kind, (m - 1) as u16, 0);
-    Parsed::To(end, m + 1)
+    let inner = Place {
+        rest: &place.rest[prefix.size..],
+        nodes: place.nodes,
+    };
+    let part = formula(inner, space)?;
+    put_node(space, part.nodes, prefix.kind, (part.nodes - 1) as u16, 0);
+    Some(Place {
+        rest: part.rest,
+        nodes: part.nodes + 1,
+    })
 }

@@ -1,111 +1,75 @@
-// The signs of a formula's text, at a place in it.
-ghost use Rattle.std.specs.Prelude.{◌≡◌, true, false, ◌≤◌, length, drop};
+// The signs that a formula's text goes on with.
+ghost use Rattle.std.specs.Prelude.{◌≡◌, map};
 ghost use Rattle.formula.specs.Text.{sign};
-ghost use Rattle.formula.specs.Nodes.{prefix_kind};
-ghost use Rattle.formula.specs.Inside.{begins, SignAt, Bracket, plain, opened, bracket_number, MiddleAt};
+ghost use Rattle.formula.specs.Inside.{first_of, SignAt, Bracket, prefix_named, opened, bracket_kind, MiddleAt};
 
-// The kind that a sign stands for, and how many bytes it takes; 0 where there is none.
-#[derive(Drop)]
+use model::kinds::Kind;
+
+// The kind that a sign stands for, and how many bytes it takes.
+#[derive(Clone, Copy)]
 pub(crate) struct Sign {
-    pub(crate) kind: u16,
+    pub(crate) kind: Kind,
     pub(crate) size: usize,
 }
 
-// Whether these bytes stand at a place.
-pub(crate) fn stands(bytes: &[u8], text: &[u8], place: usize) -> bool
-    requires { place ≤ length text.now }
-    ensures { result ≡ begins bytes.now (drop place text.now) }
+// What stands before one formula.
+const PREFIXES: [(&[u8], Kind); 7] = [
+    (b"!", Kind::Not),
+    (b"EX ", Kind::Ex),
+    (b"AX ", Kind::Ax),
+    (b"EF ", Kind::Ef),
+    (b"AF ", Kind::Af),
+    (b"EG ", Kind::Eg),
+    (b"AG ", Kind::Ag),
+];
+
+// A bracket goes by the first kind that it begins.
+const BRACKETS: [(&[u8], Kind); 3] = [(b"(", Kind::And), (b"E(", Kind::Eu), (b"A(", Kind::Au)];
+
+// What joins the parts of a pair with a plain bracket.
+const JOINS: [(&[u8], Kind); 3] = [(b"&", Kind::And), (b"|", Kind::Or), (b">", Kind::Implies)];
+
+// The first sign of a table that the rest of a text begins with.
+fn sign_at(table: &[(&[u8], Kind)], rest: &[u8]) -> Option<Sign>
+    ensures { result ≡ first_of (map (λ p. (p.0.now, p.1)) table.now) rest.now }
 {
-    let n = bytes.len();
-    if text.len() - place < n {
-        return false;
-    }
-    let mut i = 0;
-    while i < n {
-        if text[place + i] != bytes[i] {
-            return false;
+    for &(bytes, kind) in table {
+        if rest.starts_with(bytes) {
+            return Some(Sign {
+                kind,
+                size: bytes.len(),
+            });
         }
-        i += 1;
     }
-    true
+    None
 }
 
 // What stands before a formula.
-pub(crate) fn prefix_at(text: &[u8], place: usize) -> Sign
-    requires { place ≤ length text.now }
-    ensures { SignAt sign prefix_kind text.now place result }
+pub(crate) fn prefix_at(rest: &[u8]) -> Option<Sign>
+    ensures { SignAt sign prefix_named rest.now result }
 {
-    if stands(b"!", text, place) {
-        return Sign { kind: 2, size: 1 };
-    }
-    if stands(b"EX ", text, place) {
-        return Sign { kind: 4, size: 3 };
-    }
-    if stands(b"AX ", text, place) {
-        return Sign { kind: 9, size: 3 };
-    }
-    if stands(b"EF ", text, place) {
-        return Sign { kind: 10, size: 3 };
-    }
-    if stands(b"AF ", text, place) {
-        return Sign { kind: 11, size: 3 };
-    }
-    if stands(b"EG ", text, place) {
-        return Sign { kind: 12, size: 3 };
-    }
-    if stands(b"AG ", text, place) {
-        return Sign { kind: 13, size: 3 };
-    }
-    Sign { kind: 0, size: 0 }
+    sign_at(&PREFIXES, rest)
 }
 
-// The bracket that begins a pair, by the first kind that it begins.
-pub(crate) fn opening_at(text: &[u8], place: usize) -> Sign
-    requires { place ≤ length text.now }
-    ensures { SignAt opened bracket_number text.now place result }
+// The bracket that begins a pair.
+pub(crate) fn opening_at(rest: &[u8]) -> Option<Sign>
+    ensures { SignAt opened bracket_kind rest.now result }
 {
-    if stands(b"(", text, place) {
-        return Sign { kind: 3, size: 1 };
-    }
-    if stands(b"E(", text, place) {
-        return Sign { kind: 5, size: 2 };
-    }
-    if stands(b"A(", text, place) {
-        return Sign { kind: 6, size: 2 };
-    }
-    Sign { kind: 0, size: 0 }
+    sign_at(&BRACKETS, rest)
 }
 
-// What joins the parts of a pair with a plain bracket.
-fn joined_at(text: &[u8], place: usize) -> Sign
-    requires { place ≤ length text.now }
-    ensures { MiddleAt plain text.now place result }
+// What joins the parts of a pair: one with E or A is until's alone.
+pub(crate) fn middle_at(rest: &[u8], bracket: Kind) -> Option<Sign>
+    ensures { (b : Bracket) → bracket ≡ bracket_kind b → MiddleAt b rest.now result }
 {
-    if stands(b"&", text, place) {
-        return Sign { kind: 3, size: 1 };
+    if let Kind::And = bracket {
+        return sign_at(&JOINS, rest);
     }
-    if stands(b"|", text, place) {
-        return Sign { kind: 7, size: 1 };
-    }
-    if stands(b">", text, place) {
-        return Sign { kind: 8, size: 1 };
-    }
-    Sign { kind: 0, size: 0 }
-}
-
-// What joins the parts of a pair with any bracket: one with E or A is until's alone.
-pub(crate) fn middle_at(text: &[u8], place: usize, bracket: u16) -> Sign
-    requires { place ≤ length text.now }
-    ensures { (b : Bracket) → bracket ≡ bracket_number b → MiddleAt b text.now place result }
-{
-    if bracket == 3 {
-        return joined_at(text, place);
-    }
-    if stands(b" U ", text, place) {
-        return Sign {
+    if rest.starts_with(b" U ") {
+        return Some(Sign {
             kind: bracket,
             size: 3,
-        };
+        });
     }
-    Sign { kind: 0, size: 0 }
+    None
 }

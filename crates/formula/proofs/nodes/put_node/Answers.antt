@@ -6,4 +6,4 @@ use Rattle.formula.proofs.nodes.put_node.Goals as goal
 pub returns-then-n-lt-MOST_NODES : goal.returns-then-n-lt-MOST_NODES
 returns-then-n-lt-MOST_NODES c =
     let a = c.args in
-    λ l. put_node a.space.now a.n a.kind a.left a.right (omega arith)
+    λ l. rw (← c.number.ensures) (put_node a.space.now a.n c.number.result a.left a.right (omega arith))

@@ -2,8 +2,8 @@
 use Rattle.formula.proofs.Accepting.{found_none, found_long}
 use Rattle.formula.proofs.parts.accepted_part.Goals as goal
 
-pub returns-in_default : goal.returns-in_default
-returns-in_default c = found_none c.part_at-found.ensures c.in_default.is
+pub returns-in_err-part : goal.returns-in_err-part
+returns-in_err-part c = rw c.from_residual.ensures (found_none c.in_err-part.ensures)
 
-pub returns-then-bytes-gt-MOST_FORMULA : goal.returns-then-bytes-gt-MOST_FORMULA
-returns-then-bytes-gt-MOST_FORMULA c = found_long (c.part_at-found.ensures.found _ _ c.in-Of.is) c.if-bytes-gt-MOST_FORMULA.true
+pub returns-then-part-gt-MOST_FORMULA : goal.returns-then-part-gt-MOST_FORMULA
+returns-then-part-gt-MOST_FORMULA c = found_long c.in_ok-part.ensures c.if-part-gt-MOST_FORMULA.true

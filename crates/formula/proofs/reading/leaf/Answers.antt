@@ -1,38 +1,22 @@
 -- `leaf` meets its contract.
-use mathlib.Core.Path.{sym, ◌∙◌}
+use mathlib.Core.Path.{refl, sym, ◌∙◌}
 use mathlib.Core.List.{[], ◌∷◌}
-use Prim.Native.Nat.{◌+◌}
-use lib.ListN.{drop}
 use Rattle.formula.proofs.OneReading.{none_leaf}
 use Rattle.formula.proofs.Marks.{there}
-use Rattle.formula.proofs.Founds.{found_true, found_atom, atom_found, atom_gone, no_atom}
+use Rattle.formula.proofs.Founds.{found_true, found_atom, no_atom}
 use Rattle.formula.proofs.reading.leaf.Goals as goal
 
-pub returns-then-stands : goal.returns-then-stands
-returns-then-stands c =
-    let a = c.args in
-    let t = there (84 ∷ []) a.text.now a.place c.requires.within (sym c.stands.ensures ∙ c.if-stands.true) in
-    found_true a.text.now a.place a.n a.space.now _ t c.put_node.ensures
+pub returns-then-starts_with : goal.returns-then-starts_with
+returns-then-starts_with c = found_true (there (84 ∷ []) _ 1 refl (sym c.starts_with.ensures.value ∙ c.if-starts_with.true)) c.put_node.ensures
 
-pub returns-then-not-stands : goal.returns-then-not-stands
-returns-then-not-stands c =
-    let a = c.args in
-    none_leaf (drop a.place a.text.now) (sym c.stands.ensures ∙ c.if-stands.false) (sym c.stands-2.ensures ∙ c.if-not-stands.true)
+pub returns-then-not-starts_with : goal.returns-then-not-starts_with
+returns-then-not-starts_with c =
+    none_leaf _ (sym c.starts_with.ensures.value ∙ c.if-starts_with.false) (sym c.starts_with-2.ensures.value ∙ c.if-not-starts_with.true)
 
-pub atom_at-found-requires : goal.atom_at-found-requires
-atom_at-found-requires c =
-    let a = c.args in
-    let t = there (112 ∷ []) a.text.now a.place c.requires.within (sym c.stands-2.ensures ∙ c.if-not-stands.false) in
-    (c.requires.short, t.inside)
-
-pub returns-in_default : goal.returns-in_default
-returns-in_default c =
-    let a = c.args in
-    let t = there (112 ∷ []) a.text.now a.place c.requires.within (sym c.stands-2.ensures ∙ c.if-not-stands.false) in
-    no_atom a.text.now a.place t (atom_gone a.text.now (a.place + 1) _ c.in_default.is c.atom_at-found.ensures)
+pub returns-in_err-atom : goal.returns-in_err-atom
+returns-in_err-atom c =
+    rw c.from_residual.ensures (no_atom (there (112 ∷ []) _ 1 refl (sym c.starts_with-2.ensures.value ∙ c.if-not-starts_with.false)) c.in_err-atom.ensures)
 
 pub returns : goal.returns
 returns c =
-    let a = c.args in
-    let t = there (112 ∷ []) a.text.now a.place c.requires.within (sym c.stands-2.ensures ∙ c.if-not-stands.false) in
-    found_atom a.text.now a.place a.n a.space.now _ _ _ t (atom_found a.text.now (a.place + 1) _ _ _ c.in-Is.is c.atom_at-found.ensures) c.put_node-2.ensures
+    found_atom (there (112 ∷ []) _ 1 refl (sym c.starts_with-2.ensures.value ∙ c.if-not-starts_with.false)) c.in_ok-atom.ensures c.put_node-2.ensures
