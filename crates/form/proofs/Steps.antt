@@ -23,11 +23,6 @@ joined xs ys (found zs s) = ap (λ (l : List ℕ). found l s) (sym (append_assoc
 joined xs ys ends = refl
 joined xs ys (refused n) = refl
 
-pub valued_nothing : (o : Reading (List ℕ)) → o ≡ valued (λ zs. [] ++ zs) o
-valued_nothing (found zs s) = refl
-valued_nothing ends = refl
-valued_nothing (refused n) = refl
-
 module _ (bytes s : List ℕ) (j i : ℕ) (below : j < length bytes) where
   pub exactly_ends : length s ≤ i → exactly (drop j bytes) (drop i s) ≡ ends
   unfolding exactly
@@ -134,3 +129,8 @@ end_done k s i h = rw (drop_of_length-le s h)
 pub end_broken : {A : Type 0} (k : Unit {0} → Reader A) (s : List ℕ) (i : ℕ) → i < length s → on (end (drop i s)) k ≡ refused 19
 unfolding end
 end_broken k s i h = rw (here s i h)
+
+-- the steps of a reader, for a search
+pub ruleset exactly_steps = (exactly_ends, exactly_broken, exactly_on, exactly_done)
+
+pub ruleset number_steps = (from_ends, from_stop, from_broken, from_on, number_ends, number_broken, number_on, grows)

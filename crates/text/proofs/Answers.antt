@@ -1,12 +1,20 @@
 -- An answer that is no line is handed on as it is, and after one that is a line the next reader goes on from its place.
 use Prim.Native.Nat.{ℕ}
-use mathlib.Core.Path.{◌≡◌, refl, ap, sym, ◌∙◌}
+use mathlib.Core.Path.{◌≡◌, refl, ap, sym, ◌∙◌, subst}
 use mathlib.Core.List.{List, map}
 use native.Mathlib.Omega.{arith}
 use lib.ListN.{take, drop}
+use Rattle.std.specs.Prelude.{Result, Ok, Err, IsErrAnd}
 use Rattle.lists.specs.Entries.{at}
 use Rattle.lists.specs.Rows.{laid}
 use Rattle.model.specs.Model.{Model}
+use Rattle.values.specs.Refusal.{number_of}
+use Rattle.values.specs.declared.refusal.Refusal.{Refusal}
+use Rattle.values.specs.declared.refusal.Refusal.TheVariants.{TextForm}
+use Rattle.values.proofs.Refusing.{is_refused}
+use Rattle.form.specs.Form.{model_text}
+use Rattle.text.specs.declared.Counts.{Counts}
+use Rattle.text.specs.declared.tables.Held.{Held}
 use Rattle.text.specs.declared.cursor.Cursor.{Cursor}
 use Rattle.text.specs.declared.cursor.Line.{Line}
 use Rattle.text.specs.declared.cursor.Line.TheVariants.{Read, Ends, Refused}
@@ -15,7 +23,7 @@ use Rattle.form.specs.Readers.Reading.{found, ends, refused}
 use Rattle.text.specs.Answers.{settled}
 use Rattle.text.specs.Answers.Outcome.{refusal}
 use Rattle.form.specs.Print.{Count}
-use Rattle.text.specs.Inside.{told, carried, nothing, first, bare, after, LineRead, refusal_of}
+use Rattle.text.specs.Inside.{told, carried, nothing, first, bare, after, LineRead, taken, TextRead}
 use Rattle.form.proofs.Readings.{found_same, ends_found, refused_found, symbols_found}
 use Rattle.form.proofs.Inverse.{count_inverse}
 
@@ -98,7 +106,7 @@ missed g k text ends Ends e t = refl
 missed g k text (refused m) Ends e t = absurd (let z : ◌≡◌ {A = ℕ} 0 1 = cc in omega arith)
 missed g k text (found a s) (Refused n) e t = absurd (let z : ◌≡◌ {A = ℕ} 0 1 = cc in omega arith)
 missed g k text ends (Refused n) e t = absurd (let z : ◌≡◌ {A = ℕ} 0 1 = cc in omega arith)
-missed g k text (refused m) (Refused n) e t = let q : n ≡ m = cc in ap refused q
+missed g k text (refused m) (Refused n) e t = let q : number_of n ≡ m = cc in ap refused q
 
 pub missed_table : (text : List ℕ) (to : ℕ) (before now : List ℕ) (o : Reading (List ℕ)) (l : Line) → LineRead o text to before now l → Stops l → now ≡ before
 missed_table text to before now (found a s) (Read x y c) r t = absurd (no_stop x y c t)
@@ -107,11 +115,26 @@ missed_table text to before now (found a s) (Refused n) r t = absurd (refused_fo
 missed_table text to before now ends l r t = r.table
 missed_table text to before now (refused m) l r t = r.table
 
+-- what an answer carries is what its line carries, and no line was read where it has a refusal
+pub taken_read : (l : Line) (x y : ℕ) (c : Cursor) → taken l ≡ Ok (x, y, c) → l ≡ Read x y c
+taken_read (Read x' y' c') x y c q =
+    let p : ◌≡◌ {A = ℕ × ℕ × Cursor} (x', y', c') (x, y, c) = cc in
+    ap (λ (r : ℕ × ℕ × Cursor). Read r.0 r.1 r.2) p
+taken_read Ends x y c q = absurd (let z : ◌≡◌ {A = ℕ} 0 1 = cc in omega arith)
+taken_read (Refused e) x y c q = absurd (let z : ◌≡◌ {A = ℕ} 0 1 = cc in omega arith)
+
+pub taken_stops : (l : Line) (e : Refusal) → taken l ≡ Err e → Stops l
+taken_stops l e q x y c p = let z : ◌≡◌ {A = ℕ} 0 1 = cc (ap taken p) in absurd (omega arith)
+
 -- a part that was not read ends the reading
-pub outcome_refused : (f : ℕ → ℕ → Model) (text : List ℕ) (l : Line) (o : Reading Model) (n : ℕ) → n ≡ refusal_of l → told f text l ≡ o → Stops l → refusal n ≡ settled o
-outcome_refused f text (Read x y c) o n q e t = absurd (no_stop x y c t)
-outcome_refused f text Ends o n q e t = ap refusal q ∙ ap settled e
-outcome_refused f text (Refused m) o n q e t = ap refusal q ∙ ap settled e
+pub outcome_refused : (f : ℕ → ℕ → Model) (text : List ℕ) (l : Line) (o : Reading Model) (e : Refusal) → taken l ≡ Err e → told f text l ≡ o → refusal (number_of e) ≡ settled o
+outcome_refused f text (Read x y c) o e q t = absurd (let z : ◌≡◌ {A = ℕ} 0 1 = cc in omega arith)
+outcome_refused f text Ends o e q t = let p : e ≡ TextForm = cc in ap (λ (k : Refusal). refusal (number_of k)) p ∙ ap settled t
+outcome_refused f text (Refused m) o e q t = let p : e ≡ m = cc in ap (λ (k : Refusal). refusal (number_of k)) p ∙ ap settled t
+
+-- the exit of a `?`: what was met is what the text comes to
+pub text_refused : (text : List ℕ) (h : Held) (r : Result Counts Refusal) (e : Refusal) → IsErrAnd r (λ y. y ≡ e) → refusal (number_of e) ≡ settled (model_text text) → TextRead text h r
+text_refused text h r e q o = subst (TextRead text h) (sym (is_refused r e q)) (record { says = o; edges = omega arith; nodes = omega arith })
 
 -- a count that was read is in its range
 pub counted : (k : List ℕ) (least most n : ℕ) (text left : List ℕ) (l : Line) {x y : ℕ} {c : Cursor} → told first text l ≡ count_line k least most n left → l ≡ Read x y c → Count least most x

@@ -1,5 +1,7 @@
 pub mod Answers
+pub mod Bare
 pub mod Numbers
+pub mod Places
 pub mod Reached
 pub mod Parts
 pub mod Whole

@@ -1,9 +1,9 @@
--- Lines of one sort, read one after the other into the front of a table: a loop's first turn, each further one, and its ways out.
+-- Lines of one sort, read one after the other into the front of a table: each turn of a loop, and its ways out.
 use Prim.Native.Nat.{ℕ, suc, ◌+◌, ◌-◌, ◌*◌, ◌≤◌, ◌<◌}
-use mathlib.Core.Path.{◌≡◌, refl, ap, sym, ◌∙◌}
+use mathlib.Core.Path.{◌≡◌, ap, sym, ◌∙◌}
 use mathlib.Core.List.{List, [], ◌++◌, append-nil}
 use native.Mathlib.Numerals.{add-one}
-use native.Mathlib.Nat.{zero-add, sub-zero, mul-zero, mul-suc, mul-le-mul_left}
+use native.Mathlib.Nat.{zero-add, mul-suc, mul-le-mul_left}
 use native.Mathlib.Omega.{arith}
 use lib.ListN.{length, take, drop}
 use lib.Seq.{drop-drop}
@@ -14,33 +14,28 @@ use Rattle.text.specs.declared.cursor.Line.TheVariants.{Read}
 use Rattle.form.specs.Readers.{Reading, Reader, on, give, valued, lines, row_line}
 use Rattle.form.specs.Readers.Reading.{found}
 use Rattle.text.specs.Inside.{told, after, LineRead, LinesRead}
-use Rattle.form.proofs.Steps.{joined, valued_nothing}
+use Rattle.form.proofs.Steps.{joined}
 use Rattle.lists.proofs.Laid.{laid_take, laid_drop}
 use Rattle.form.proofs.Readings.{row_size_lem}
 use Rattle.text.proofs.Answers.{Stops, stopped, took, missed, missed_table, whole}
 
 -- k lines of w values were read: they stand in the front, and the other lines are read from `at` on
 pub record Reached (p : Reader (List ℕ)) (w n : ℕ) (text s before now : List ℕ) (k at : ℕ) : Type 0 where
-  pub within : k ≤ n
   pub length : length now ≡ length before
   pub rest : drop (w * k) now ≡ drop (w * k) before
   pub all : lines p n s ≡ valued (λ ws. take (w * k) now ++ ws) (lines p (n - k) (drop at text))
 
-pub one_more : (w k : ℕ) → w * (k + 1) ≡ w * k + w
+one_more : (w k : ℕ) → w * (k + 1) ≡ w * k + w
 one_more w k = rw add-one (mul-suc w k)
 
-pub room : (w k n : ℕ) → k < n → w * k + w ≤ w * n
+room : (w k n : ℕ) → k < n → w * k + w ≤ w * n
 room w k n h = rw (← one_more w k) (mul-le-mul_left w (omega arith))
 
 -- what is the same behind m entries is the same behind more
-pub behind : (m n : ℕ) (l r : List ℕ) → m ≤ n → drop m l ≡ drop m r → drop n l ≡ drop n r
+behind : (m n : ℕ) (l r : List ℕ) → m ≤ n → drop m l ≡ drop m r → drop n l ≡ drop n r
 behind m n l r h e =
     let d : n ≡ m + (n - m) = omega arith in
     rw d (sym (drop-drop (n - m) m l) ∙ ap (drop (n - m)) e ∙ drop-drop (n - m) m r)
-
-pub reached_none : (p : Reader (List ℕ)) (w n : ℕ) (text before : List ℕ) (at : ℕ) → Reached p w n text (drop at text) before before 0 at
-reached_none p w n text before at =
-    record { within = omega arith; length = refl; rest = refl; all = rw (mul-zero, sub-zero) (valued_nothing (lines p n (drop at text))) }
 
 lines_step : (p : Reader (List ℕ)) (m : ℕ) (s xs rest : List ℕ) → p s ≡ found xs rest → lines p (suc m) s ≡ valued (λ ws. xs ++ ws) (lines p m rest)
 unfolding lines
@@ -63,7 +58,6 @@ module _ (p : Reader (List ℕ)) (w n : ℕ) (text s before now : List ℕ) (k a
       let step : lines p (n - k) (drop at text) ≡ valued (λ ws. xs ++ ws) (lines p (n - (k + 1)) (drop c.at text)) =
       ap (λ (i : ℕ). lines p i (drop at text)) m ∙ lines_step p (n - (k + 1)) (drop at text) xs (drop c.at text) t.line in
       record {
-        within = omega arith;
         length = same ∙ r.length;
         rest = back ∙ behind (w * k) (w * (k + 1)) now before (mul-le-mul_left w (omega arith)) r.rest;
         all = r.all ∙ ap (valued (λ ws. take (w * k) now ++ ws)) step ∙ joined (take (w * k) now) xs (lines p (n - (k + 1)) (drop c.at text))
@@ -80,13 +74,12 @@ module _ (p : Reader (List ℕ)) (w n : ℕ) (text s before now : List ℕ) (k a
       let same : next ≡ now = missed_table text (w * k) now next (p (drop at text)) l one t in
       record {
         says = stopped (λ x y. []) (λ x y. take (w * n) next) (λ ws. give (take (w * k) now ++ ws)) text l _ e t ∙ sym r.all;
-        rest = ap (drop (w * n)) same ∙ behind (w * k) (w * n) now before (mul-le-mul_left w r.within) r.rest;
+        rest = ap (drop (w * n)) same ∙ behind (w * k) (w * n) now before (mul-le-mul_left w (omega arith)) r.rest;
       }
 
-  pub reached_done : n ≤ k → (c : Cursor) → c.at ≡ at → LinesRead (lines p n s) text (w * n) before now (Read 0 0 c)
+  pub reached_done : k ≡ n → (c : Cursor) → c.at ≡ at → LinesRead (lines p n s) text (w * n) before now (Read 0 0 c)
   unfolding lines
-  reached_done h c q =
-      let e : k ≡ n = omega (arith, r.within) in
+  reached_done e c q =
       let z : n - k ≡ 0 = omega arith in
       let f : lines p (n - k) (drop at text) ≡ found [] (drop at text) = rw z in
       record {

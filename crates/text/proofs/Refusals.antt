@@ -14,7 +14,9 @@ use Rattle.form.specs.Readers.Reading.{found, ends, refused}
 use Rattle.form.specs.Form.{model_text}
 use Rattle.text.specs.Answers.{refusals, any_short, Tables, Outcome, settled, text_outcome, outcome, number_due, counts_due, ModelRead}
 use Rattle.text.specs.Answers.Outcome.{refusal}
-use Rattle.text.specs.declared.Read.TheVariants as read
+use Rattle.std.specs.Prelude.{Err}
+use Rattle.values.specs.Refusal.{number_of}
+use Rattle.values.specs.declared.refusal.Refusal.{Refusal}
 use Rattle.form.proofs.Refusals.{Only, model_only}
 
 -- a number of a list is one of its numbers
@@ -23,11 +25,14 @@ at_member [] i h = absurd (omega arith)
 at_member (x ∷ xs) zero h = Memᴰ.head refl
 at_member (x ∷ xs) (suc i) h = Memᴰ.tail (at_member xs i (omega arith))
 
-pub only_these : (text : List ℕ) (before after : Tables) (n : ℕ) → ModelRead text before after (read.Refused n) → Memᴰ n refusals
+pub only_these : (text : List ℕ) (before after : Tables) (e : Refusal) → ModelRead text before after (Err e) → Memᴰ (number_of e) refusals
 unfolding outcome text_outcome
-only_these text before after n p =
+only_these text before after e p =
     by (any_short before) (ltb most_text (length text)) (outcome before text) refl p.number p.counts
   where
+    n : ℕ
+    n = number_of e
+
     there : (k : ℕ) → n ≡ k → Memᴰ k refusals → Memᴰ n refusals
     there k e m = subst (λ (x : ℕ). Memᴰ x refusals) (sym e) m
 

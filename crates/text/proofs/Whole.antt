@@ -4,12 +4,11 @@ use mathlib.Core.Path.{◌≡◌, refl, ap, sym, ◌∙◌, subst}
 use mathlib.Core.List.{List, [], ◌∷◌}
 use mathlib.Core.Bool.{true, false}
 use native.Mathlib.Omega.{arith}
-use native.Mathlib.Nat.{mul-le-mul, mul-le-mul_left, mul_comm}
+use native.Mathlib.Nat.{mul-le-mul, mul_comm}
 use lib.ListN.{length, take, replicate, length-replicate}
 use lib.Seq.{length-take-le}
 use lib.Dec.{ltb}
 use borrow.Author.Tests.{lt-ltb, le-ltb, ltb-false}
-use Rattle.lists.specs.Rows.{fill, laid}
 use Rattle.lists.proofs.Tests.{or_neither}
 use Rattle.values.specs.Limits.{most_states, most_labels, most_transition_numbers, most_node_numbers, most_text}
 use Rattle.kripke.specs.Transitions.{count}
@@ -20,18 +19,13 @@ use Rattle.form.specs.Form.{model_text}
 use Rattle.form.specs.Print.{Printable}
 use Rattle.text.specs.Answers.{Tables, tables, Outcome, settled, too_short, any_short, text_outcome, outcome, number_due, counts_due, tables_due, ModelRead}
 use Rattle.text.specs.Answers.Outcome.{model, refusal}
-use Rattle.text.specs.Inside.{labelled_in, lists_in, outcome_in}
-use Rattle.text.specs.declared.Read.{Read}
-use Rattle.text.specs.declared.Read.TheVariants as read
+use Rattle.text.specs.Inside.{labelled_in, lists_in, outcome_in, Few, Enough, TextRead}
+use Rattle.std.specs.Prelude.{Ok, Err}
+use Rattle.values.specs.Refusal.{number_of}
+use Rattle.values.specs.declared.refusal.Refusal.{Refusal}
+use Rattle.text.specs.declared.Counts.{Counts}
+use Rattle.text.specs.declared.tables.Held.{Held}
 use Rattle.form.proofs.Printed.{model_back}
-use Rattle.lists.proofs.Laid.{laid_front}
-
--- the tables are long enough
-pub record Enough (L I T N : ℕ) : Type 0 where
-  pub labels : most_labels ≤ L
-  pub initial : most_states ≤ I
-  pub transitions : most_transition_numbers ≤ T
-  pub nodes : most_node_numbers ≤ N
 
 pub enough : (L I T N : ℕ) → too_short L I T N ≡ false → Enough L I T N
 unfolding too_short
@@ -87,27 +81,16 @@ module _ (before : Tables) (text : List ℕ) where
   unfolding text_outcome
   outcome_text e h = outcome_here e ∙ simp (le-ltb most_text (length text) h)
 
-pub promise_refused : (text : List ℕ) (before : Tables) (n : ℕ) → outcome before text ≡ refusal n → ModelRead text before before (read.Refused n)
-promise_refused text before n e = record { number = sym (ap number_due e); counts = sym (ap counts_due e); lent = sym (ap (λ (o : Outcome). tables_due o before) e) }
+pub promise_refused : (text : List ℕ) (before : Tables) (e : Refusal) → outcome before text ≡ refusal (number_of e) → ModelRead text before before (Err e)
+promise_refused text before e o = record { number = sym (ap number_due o); counts = sym (ap counts_due o); lent = sym (ap (λ (o : Outcome). tables_due o before) o) }
 
--- an answer of the whole text that is a refusal is handed on as it is
-pub promise_stopped : (text : List ℕ) (before : Tables) (l i t n : List ℕ) (r : Read) → outcome before text ≡ outcome_in l i t n r → ((s a e f : ℕ) → r ≡ read.Model s a e f → ⊥)
-    → ModelRead text before before r
-promise_stopped text before l i t n (read.Model s a e f) q k = absurd (k s a e f refl)
-promise_stopped text before l i t n (read.Refused m) q k = promise_refused text before m q
-
-pub promise_model : (text : List ℕ) (before : Tables) (L I T N l i t n : List ℕ) (s a e f : ℕ) → outcome before text ≡ model (lists_in (labelled_in l i s a) t n e f)
-    → 2 * e ≤ length t → 3 * f ≤ length n
-    → L ≡ fill (take (a * s) l) before.labels → I ≡ fill (take s i) before.initial → T ≡ laid 0 (take (2 * e) t) before.transitions
-    → N ≡ laid 0 (take (3 * f) n) before.nodes → ModelRead text before (tables L I T N) (read.Model s a e f)
-promise_model text before L I T N l i t n s a e f o x y p q r u =
-    let r' : T ≡ fill (take (2 * e) t) before.transitions = r ∙ laid_front (take (2 * e) t) before.transitions in
-    let u' : N ≡ fill (take (3 * f) n) before.nodes = u ∙ laid_front (take (3 * f) n) before.nodes in
-    let same : tables L I T N ≡ tables_due (model (lists_in (labelled_in l i s a) t n e f)) before = cc in
-    let edges : count (take (2 * e) t) ≡ e = omega (arith, length-take-le (2 * e) t x) in
-    let nodes : node_count (take (3 * f) n) ≡ f = omega (arith, length-take-le (3 * f) n y) in
-    let counts : s ∷ a ∷ e ∷ f ∷ [] ≡ counts_due (model (lists_in (labelled_in l i s a) t n e f)) = cc in
-    record { number = sym (ap number_due o); counts = counts ∙ sym (ap counts_due o); lent = same ∙ sym (ap (λ (x : Outcome). tables_due x before) o) }
+pub promise_model : (text : List ℕ) (before after : Tables) (h : Held) (c : Counts) → outcome before text ≡ outcome_in h (Ok c) → 2 * c.transitions ≤ length h.transitions → 3 * c.nodes ≤ length h.nodes
+    → after ≡ tables_due (outcome_in h (Ok c)) before → ModelRead text before after (Ok c)
+promise_model text before after h c o x y lent =
+    let edges : count (take (2 * c.transitions) h.transitions) ≡ c.transitions = omega (arith, length-take-le (2 * c.transitions) h.transitions x) in
+    let nodes : node_count (take (3 * c.nodes) h.nodes) ≡ c.nodes = omega (arith, length-take-le (3 * c.nodes) h.nodes y) in
+    let counts : c.states ∷ c.atoms ∷ c.transitions ∷ c.nodes ∷ [] ≡ counts_due (outcome_in h (Ok c)) = cc in
+    record { number = sym (ap number_due o); counts = counts ∙ sym (ap counts_due o); lent = lent ∙ sym (ap (λ (x : Outcome). tables_due x before) o) }
 
 -- a model that was read is printable
 pub settled_printable : (o : Reading Model) (m : Model) (s : List ℕ) → o ≡ model_text s → model m ≡ settled o → Printable m
@@ -117,9 +100,8 @@ settled_printable (found m' rest) m s e q =
 settled_printable ends m s e q = absurd (let z : ◌≡◌ {A = ℕ} 0 1 = cc in omega arith)
 settled_printable (refused n) m s e q = absurd (let z : ◌≡◌ {A = ℕ} 0 1 = cc in omega arith)
 
--- and its lists fit into tables of the largest sizes
-pub labels_fit : (m : Model) → Printable m → m.atoms * m.states ≤ most_labels
-labels_fit m g = omega (arith, mul-le-mul g.states.most g.atoms.most, mul_comm m.states m.atoms)
-
-pub list_fits : (w most n size : ℕ) → n ≤ most → size ≡ w * most → (w * n ≤ w * most) × (w * n ≤ size)
-list_fits w most n size h e = (mul-le-mul_left w h, omega (arith, mul-le-mul_left w h))
+-- and tables of the largest sizes hold it
+pub few : (text : List ℕ) (h : Held) (c : Counts) → TextRead text h (Ok c) → Few c
+few text h c r =
+    let g = settled_printable (model_text text) (lists_in (labelled_in h.labels h.initial c.states c.atoms) h.transitions h.nodes c.transitions c.nodes) text refl r.says in
+    record { states = g.states.most; labels = omega (arith, mul-le-mul g.states.most g.atoms.most, mul_comm c.states c.atoms); transitions = r.edges; nodes = r.nodes }

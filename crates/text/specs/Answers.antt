@@ -1,5 +1,5 @@
 -- What `read_model` promises: its answer and all four tables, for every text and all tables.
-use Rattle.std.specs.Prelude.{ℕ, ◌≡◌, List, [], ◌∷◌, Bool, cond, ◌||◌, length, ltb}
+use Rattle.std.specs.Prelude.{ℕ, ◌≡◌, List, [], ◌∷◌, Bool, cond, ◌||◌, length, ltb, Result, Ok, Err}
 use Rattle.lists.specs.Rows.{fill}
 use Rattle.values.specs.Limits.{most_states, most_labels, most_transition_numbers, most_node_numbers, most_text}
 use Rattle.kripke.specs.Transitions.{count}
@@ -8,8 +8,9 @@ use Rattle.form.specs.Readers.{Reading}
 use Rattle.form.specs.Readers.Reading.{found, ends, refused}
 use Rattle.form.specs.Form.{model_text}
 use Rattle.form.specs.Print.{print, Printable}
-use Rattle.text.specs.declared.Read.{Read}
-use Rattle.text.specs.declared.Read.TheVariants as read
+use Rattle.values.specs.Refusal.{answer_number}
+use Rattle.values.specs.declared.refusal.Refusal.{Refusal}
+use Rattle.text.specs.declared.Counts.{Counts}
 
 -- the four tables that are lent
 pub record Tables : Type 0 where
@@ -49,15 +50,10 @@ text_outcome text = cond (ltb most_text (length text)) (refusal 18) (settled (mo
 unfoldable pub outcome : Tables → List ℕ → Outcome
 outcome lent text = cond (any_short lent) (refusal 24) (text_outcome text)
 
--- the paper's number for each answer, 0 where a model was read
-abbrev pub number_of : Read → ℕ
-number_of (read.Model states atoms transitions nodes) = 0
-number_of (read.Refused n) = n
-
--- and its values: the counts of states, atoms, transitions and nodes
-abbrev pub counts_of : Read → List ℕ
-counts_of (read.Model states atoms transitions nodes) = states ∷ atoms ∷ transitions ∷ nodes ∷ []
-counts_of (read.Refused n) = []
+-- the values of an answer: the counts of states, atoms, transitions and nodes
+abbrev pub counts_of : Result Counts Refusal → List ℕ
+counts_of (Ok c) = c.states ∷ c.atoms ∷ c.transitions ∷ c.nodes ∷ []
+counts_of (Err e) = []
 
 -- the number that is due, 0 for a model
 abbrev pub number_due : Outcome → ℕ
@@ -76,17 +72,17 @@ tables_due (model m) before =
 tables_due (refusal n) before = before
 
 -- the promise: the answer and every table are what is due, whatever was lent and whatever the text
-pub record ModelRead (text : List ℕ) (before after : Tables) (answer : Read) : Type 0 where
-  pub number : number_of answer ≡ number_due (outcome before text)
+pub record ModelRead (text : List ℕ) (before after : Tables) (answer : Result Counts Refusal) : Type 0 where
+  pub number : answer_number answer ≡ number_due (outcome before text)
   pub counts : counts_of answer ≡ counts_due (outcome before text)
   pub lent : after ≡ tables_due (outcome before text) before
 
 -- what an accepted text held: a printable model whose print it is, its counts in the answer and its tables in the fronts
-pub record Accepted (text : List ℕ) (before after : Tables) (s a e f : ℕ) : Type 0 where
+pub record Accepted (text : List ℕ) (before after : Tables) (c : Counts) : Type 0 where
   pub held : Model
   pub printed : text ≡ print held
   pub printable : Printable held
-  pub counts : s ∷ a ∷ e ∷ f ∷ [] ≡ counts_due (model held)
+  pub counts : counts_of (Ok c) ≡ counts_due (model held)
   pub lent : after ≡ tables_due (model held) before
 
 -- the numbers of reading; it gives no other

@@ -1,8 +1,8 @@
--- What the private functions answer one another: the value and what is left of the text, that the text ends, or the number of a refusal.
-use Rattle.std.specs.Prelude.{ℕ, ◌*◌, ◌≤◌, ◌≡◌, List, [], ◌∷◌, take, drop}
+-- What the private functions answer one another: the value and what is left of the text, that the text ends, or a refusal.
+use Rattle.std.specs.Prelude.{ℕ, ◌*◌, ◌≤◌, ◌≡◌, List, [], ◌∷◌, take, drop, Result, Ok, Err}
 use Rattle.lists.specs.Entries.{at}
 use Rattle.lists.specs.Rows.{laid}
-use Rattle.values.specs.Limits.{most_states, most_atoms, most_transitions, most_nodes}
+use Rattle.values.specs.Limits.{most_states, most_atoms, most_labels, most_transitions, most_transition_numbers, most_nodes, most_node_numbers}
 use Rattle.values.specs.Signs.{letters}
 use Rattle.model.specs.Model.{Model, as_model}
 use Rattle.form.specs.Readers.{Reading, Reader, valued, ◌>>=◌, give, count_line, row_line, lines, end}
@@ -10,8 +10,12 @@ use Rattle.form.specs.Readers.Reading.{found, ends, refused}
 use Rattle.form.specs.Form.{key_states, key_atoms, key_init, key_label, key_edges, key_edge, key_nodes, key_node, bits, listed, model_text}
 use Rattle.text.specs.Answers.{Outcome, settled, counts_of}
 use Rattle.text.specs.Answers.Outcome.{model, refusal}
-use Rattle.text.specs.declared.Read.{Read}
-use Rattle.text.specs.declared.Read.TheVariants as read
+use Rattle.values.specs.Refusal.{number_of}
+use Rattle.values.specs.declared.refusal.Refusal.{Refusal}
+use Rattle.values.specs.declared.refusal.Refusal.TheVariants.{TextForm}
+use Rattle.text.specs.declared.Counts.{Counts}
+use Rattle.text.specs.declared.tables.Held.{Held}
+use Rattle.text.specs.declared.cursor.Cursor.{Cursor}
 use Rattle.text.specs.declared.cursor.Line.{Line}
 use Rattle.text.specs.declared.cursor.Line.TheVariants as line
 
@@ -19,13 +23,13 @@ use Rattle.text.specs.declared.cursor.Line.TheVariants as line
 abbrev pub told : {A : Type 0} → (ℕ → ℕ → A) → List ℕ → Line → Reading A
 told value text (line.Read x y c) = found (value x y) (drop c.at text)
 told value text line.Ends = ends
-told value text (line.Refused n) = refused n
+told value text (line.Refused e) = refused (number_of e)
 
 -- these two numbers
 abbrev pub carried : Line → List ℕ
 carried (line.Read x y c) = x ∷ y ∷ []
 carried line.Ends = []
-carried (line.Refused n) = []
+carried (line.Refused e) = []
 
 -- a line, or a part of one, that carries no number
 abbrev pub nothing : ℕ → ℕ → Unit {0}
@@ -104,19 +108,33 @@ pub record ListsRead (text left T N : List ℕ) (answer : Line) : Type 0 where
   pub edges : at (carried answer) 0 ≤ most_transitions
   pub nodes : at (carried answer) 1 ≤ most_nodes
 
--- the refusal of a line that was not read: a text that ends too soon breaks the form
-abbrev pub refusal_of : Line → ℕ
-refusal_of (line.Read x y c) = 19
-refusal_of line.Ends = 19
-refusal_of (line.Refused n) = n
+-- what an answer carries, or why it was not read: a text that ends too soon breaks the form
+abbrev pub taken : Line → Result (ℕ × ℕ × Cursor) Refusal
+taken (line.Read x y c) = Ok (x, y, c)
+taken line.Ends = Err TextForm
+taken (line.Refused e) = Err e
 
 -- what an answer comes to, its model in the fronts of the tables
-abbrev pub outcome_in : List ℕ → List ℕ → List ℕ → List ℕ → Read → Outcome
-outcome_in L I T N (read.Model s a e f) = model (lists_in (labelled_in L I s a) T N e f)
-outcome_in L I T N (read.Refused n) = refusal n
+abbrev pub outcome_in : Held → Result Counts Refusal → Outcome
+outcome_in h (Ok c) = model (lists_in (labelled_in h.labels h.initial c.states c.atoms) h.transitions h.nodes c.transitions c.nodes)
+outcome_in h (Err e) = refusal (number_of e)
+
+-- the counts of a model that the tables hold
+pub record Few (c : Counts) : Type 0 where
+  pub states : c.states ≤ most_states
+  pub labels : c.atoms * c.states ≤ most_labels
+  pub transitions : c.transitions ≤ most_transitions
+  pub nodes : c.nodes ≤ most_nodes
+
+-- tables of these lengths hold the largest model
+pub record Enough (L I T N : ℕ) : Type 0 where
+  pub labels : most_labels ≤ L
+  pub initial : most_states ≤ I
+  pub transitions : most_transition_numbers ≤ T
+  pub nodes : most_node_numbers ≤ N
 
 -- the whole text was read: its model stands in the fronts of the tables, and the counts of its lists are within the limits
-pub record TextRead (text L I T N : List ℕ) (answer : Read) : Type 0 where
-  pub says : outcome_in L I T N answer ≡ settled (model_text text)
+pub record TextRead (text : List ℕ) (h : Held) (answer : Result Counts Refusal) : Type 0 where
+  pub says : outcome_in h answer ≡ settled (model_text text)
   pub edges : at (counts_of answer) 2 ≤ most_transitions
   pub nodes : at (counts_of answer) 3 ≤ most_nodes

@@ -1,9 +1,9 @@
-// A model's text, read into four lent tables: document 01's "The text form".
+// A model's text, read into four lent tables.
 //
 //   cursor   the reader's place, and what it reads within a line: a key, a number, symbols
 //   lines    whole lines: a count, a row of symbols, w numbers; each lays its values into a table once it is accepted
 //   sections the parts of a model, and all of it
-//   tables   the lent tables: whether they are long enough, and their fronts filled
+//   tables   whether the lent tables are long enough, those that a model is read into, and symbols laid into one
 //
 // Crate form says what the form is and how a model is printed, specs/Answers what `read_model` promises.
 #![tactic(auto)]
@@ -19,58 +19,44 @@ mod tables;
 
 ghost use Rattle.text.specs.Answers.{tables, ModelRead};
 
-use sections::read_tables;
-use tables::{copy_bytes, copy_numbers, too_short};
+use tables::{Held, too_short};
+use values::refusal::Refusal;
 
-// What reading answers.
+// How many of each a model that was read has.
 #[derive(Clone, Copy)]
-pub enum Read {
-    // The counts of what was read.
-    Model {
-        states: usize,
-        atoms: usize,
-        transitions: usize,
-        nodes: usize,
-    },
-    // The number of the refusal.
-    Refused(u8),
+pub struct Counts {
+    pub states: usize,
+    pub atoms: usize,
+    pub transitions: usize,
+    pub nodes: usize,
 }
 
 // Reads a model's text into the fronts of the four tables. A refusal changes none of them.
+// kept: four tables side by side: what a caller lends may not change. Within, they are one struct.
 pub fn read_model(
     text: &[u8],
     labels: &mut [u8],
     initial: &mut [u8],
     transitions: &mut [u16],
     nodes: &mut [u16],
-) -> Read
+) -> Result<Counts, Refusal>
     ensures { ModelRead text.now
         (tables labels.old initial.old transitions.old nodes.old)
         (tables labels.new initial.new transitions.new nodes.new) result }
 {
     if too_short(labels.len(), initial.len(), transitions.len(), nodes.len()) {
-        return Read::Refused(24);
+        return Err(Refusal::TableSpace);
     }
     if MOST_TEXT < text.len() {
-        return Read::Refused(18);
+        return Err(Refusal::TextSize);
     }
-    let mut l = [0u8; MOST_LABELS];
-    let mut i = [0u8; MOST_STATES];
-    let mut t = [0u16; MOST_TRANSITION_NUMBERS];
-    let mut n = [0u16; MOST_NODE_NUMBERS];
-    let answer = read_tables(text, &mut l, &mut i, &mut t, &mut n);
-    let Read::Model {
-        states: s,
-        atoms: a,
-        transitions: e,
-        nodes: f,
-    } = answer
-    else {
-        return answer;
+    let mut held = Held {
+        labels: [0; MOST_LABELS],
+        initial: [0; MOST_STATES],
+        transitions: [0; MOST_TRANSITION_NUMBERS],
+        nodes: [0; MOST_NODE_NUMBERS],
     };
-    copy_bytes(&l, a * s, labels);
-    copy_bytes(&i, s, initial);
-    copy_numbers(&t, 2 * e, transitions, 0);
-    copy_numbers(&n, 3 * f, nodes, 0);
-    answer
+    let counts = held.read(text)?;
+    held.hand_out(counts, labels, initial, transitions, nodes);
+    Ok(counts)
 }

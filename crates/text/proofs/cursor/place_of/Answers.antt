@@ -1,22 +1,15 @@
--- `place_of` meets its contract. No sign that was passed is the byte: its place is how many were passed and its place among the rest.
-use native.Mathlib.Omega.{arith}
-use Rattle.form.proofs.Steps.{place_here, place_on, place_none}
+-- `place_of` meets its contract: the first sign that is the byte.
+use mathlib.Core.Path.{◌≡◌, ◌∙◌}
+use Prim.Native.Nat.{ℕ}
+use borrow.Author.Tests.{tests}
+use Rattle.std.proofs.Common.{rules}
+use Rattle.std.proofs.lemmas.Iterator.{IsFirst-from_position, YieldsList-from_slice}
+use Rattle.text.proofs.Places.{place_found}
 use Rattle.text.proofs.cursor.place_of.Goals as goal
-
-pub loop-i-init : goal.loop-i-init
-loop-i-init c = (omega arith, omega arith)
-
-pub returns-then-g-b : goal.returns-then-g-b
-returns-then-g-b c =
-    let a = c.args in
-    omega (arith, c.loop-i.invariant.1, place_here a.signs.now a.b c.loop-i.i (omega arith) c.if-g-b.true)
-
-pub loop-i-preserved : goal.loop-i-preserved
-loop-i-preserved c =
-    let a = c.args in
-    (omega arith, omega (arith, c.loop-i.invariant.1, place_on a.signs.now a.b c.loop-i.i (omega arith) c.if-g-b.false))
 
 pub returns : goal.returns
 returns c =
-    let a = c.args in
-    omega (arith, c.loop-i.invariant.1, place_none a.signs.now a.b c.loop-i.i c.loop-i-test.false)
+    let b = c.args.b in
+    c.unwrap_or.ensures
+    ∙ place_found c.args.signs.now b _
+    (IsFirst-from_position _ _ _ (λ (g : ℕ). g ≡ b) (λ (g : ℕ). g ≡ b → ⊥) c.position.ensures.ran (YieldsList-from_slice c.args.signs.now cc) (λ x q k. search (rules, tests)) (λ x q k. search (rules, tests)))

@@ -7,7 +7,7 @@ use lib.ListN.{length, drop, length-drop, length-map}
 use lib.Seq.{get_or-drop}
 use Rattle.lists.specs.Rows.{laid}
 use Rattle.form.specs.Readers.{place_of}
-use Rattle.lists.proofs.Laid.{laying_none, laying_more, laying_done, map_at, map_take}
+use Rattle.lists.proofs.Laid.{laying_more, laying_done, map_at, map_take}
 use Rattle.text.proofs.tables.lay_symbols.Goals as goal
 
 abbrev places : List ℕ → List ℕ → ℕ → List ℕ
@@ -15,14 +15,6 @@ places signs text from = map (place_of signs) (drop from text)
 
 enough : (signs text : List ℕ) (from n : ℕ) → from + n ≤ length text → n ≤ length (places signs text from)
 enough signs text from n h = omega (arith, length-map (drop from text) (place_of signs), length-drop from text)
-
-pub loop-j-init : goal.loop-j-init
-loop-j-init c =
-    let a = c.args in
-    laying_none (places a.signs.now a.text.now a.from) a.n a.to a.out.now (enough a.signs.now a.text.now a.from a.n (omega arith)) (omega arith)
-
-pub bounds-out-to : goal.bounds-out-to
-bounds-out-to c = omega (arith, c.loop-j.invariant.length)
 
 pub loop-j-preserved : goal.loop-j-preserved
 loop-j-preserved c =
@@ -32,9 +24,6 @@ loop-j-preserved c =
     laying_more (places a.signs.now s a.from) a.n a.to a.out.now (enough a.signs.now s a.from a.n (omega arith)) (omega arith) l.out l.j c.place_of-v.result l.invariant (omega arith)
     (c.place_of-v.ensures ∙ ap (place_of a.signs.now) (sym (get_or-drop a.from s l.j 0))
     ∙ sym (map_at (place_of a.signs.now) (drop a.from s) l.j (omega (arith, length-drop a.from s))))
-
-pub shape_of-out : goal.shape_of-out
-shape_of-out c = c.loop-j.invariant.length
 
 pub returns : goal.returns
 returns c =

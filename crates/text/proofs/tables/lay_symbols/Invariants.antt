@@ -1,5 +1,5 @@
 -- `lay_symbols` meets its contract. The loop that lays values, which are the places of the text's bytes among the signs.
-use Prim.Native.Nat.{◌-◌, ℕ}
+use Prim.Native.Nat.{ℕ}
 use mathlib.Core.List.{List, map}
 use lib.ListN.{drop}
 use Rattle.form.specs.Readers.{place_of}
@@ -11,6 +11,3 @@ places signs text from = map (place_of signs) (drop from text)
 
 abbrev pub invariant-loop-j : goal.invariant-loop-j
 invariant-loop-j l = Laying (places l.signs l.text l.from) l.n l.to l.initial.out l.out l.j
-
-abbrev pub decreases-loop-j : goal.decreases-loop-j
-decreases-loop-j l = l.n - l.j

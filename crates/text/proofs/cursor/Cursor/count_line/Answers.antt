@@ -1,7 +1,10 @@
 -- `count_line` meets its contract. The key, the number, and then its range: each step by the answer before it.
 use mathlib.Core.Path.{◌≡◌, sym, ◌∙◌}
 use lib.ListN.{drop}
-use borrow.Author.Tests.{le-leb, lt-leb}
+use mathlib.Core.Bool.{true, false, ◌&&◌}
+use lib.Dec.{leb}
+use Rattle.std.proofs.Common.{rules}
+use Rattle.values.specs.Refusal.{number_of}
 use Rattle.form.specs.Readers.{within, count_line}
 use Rattle.text.specs.Inside.{nothing, first}
 use Rattle.text.proofs.Answers.{stopped, went}
@@ -25,7 +28,7 @@ returns-in_default-counted c =
 -- once the line was read, its form is judged, and its range is left
 ranged : (c : In-Read-counted)
     → let a = c.args in
-    count_line a.key.now a.least a.most a.refusal (drop a.self.at a.text.now) ≡ within a.least a.most a.refusal c.in-Read-counted.count (drop c.in-Read-counted.field-2.at a.text.now)
+    count_line a.key.now a.least a.most (number_of a.refusal) (drop a.self.at a.text.now) ≡ within a.least a.most (number_of a.refusal) c.in-Read-counted.count (drop c.in-Read-counted.field-2.at a.text.now)
 unfolding count_line
 ranged c =
     let s = c.args.text.now in
@@ -33,14 +36,18 @@ ranged c =
     let n = c.number-counted in
     went nothing _ s e.result _ e.ensures c.in-Read.is ∙ went first _ s n.result _ n.ensures c.in-Read-counted.is
 
-pub returns-then-n-least : goal.returns-then-n-least
+pub returns-then-not-contains : goal.returns-then-not-contains
 unfolding within
-returns-then-n-least c = sym (ranged (goal.at.returns-then-n-least c).In-Read-counted ∙ simp (lt-leb _ _ c.if-n-least.true))
-
-pub returns-then-most-n : goal.returns-then-most-n
-unfolding within
-returns-then-most-n c = sym (ranged (goal.at.returns-then-most-n c).In-Read-counted ∙ simp (le-leb _ _ c.if-n-least.false, lt-leb _ _ c.if-most-n.true))
+returns-then-not-contains c =
+    let n = c.in-Read-counted.count in
+    let v = c.if-not-contains.ensures.cases in
+    let p : (leb c.args.least n && leb n c.args.most) ≡ false = search rules in
+    sym (ranged (goal.at.returns-then-not-contains c).In-Read-counted ∙ simp p)
 
 pub returns : goal.returns
 unfolding within
-returns c = sym (ranged (goal.at.returns c).In-Read-counted ∙ simp (le-leb _ _ c.if-n-least.false, le-leb _ _ c.if-most-n.false))
+returns c =
+    let n = c.in-Read-counted.count in
+    let v = c.if-not-contains.ensures.cases in
+    let p : (leb c.args.least n && leb n c.args.most) ≡ true = search rules in
+    sym (ranged (goal.at.returns c).In-Read-counted ∙ simp p)

@@ -1,5 +1,4 @@
 -- `label_lines` meets its contract. What was read stands in the front, the other lines are read from here on.
-use Prim.Native.Nat.{◌-◌}
 use lib.ListN.{drop}
 use Rattle.values.specs.Signs.{letters}
 use Rattle.form.specs.Readers.{row_line}
@@ -9,6 +8,3 @@ use Rattle.text.proofs.cursor.Cursor.label_lines.Given as goal
 
 abbrev pub invariant-loop-k : goal.invariant-loop-k
 invariant-loop-k l = Reached (row_line key_label letters l.atoms) l.atoms l.states l.text (drop l.initial.c.at l.text) l.initial.out l.out l.k l.c.at
-
-abbrev pub decreases-loop-k : goal.decreases-loop-k
-decreases-loop-k l = l.states - l.k

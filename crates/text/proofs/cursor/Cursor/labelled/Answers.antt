@@ -1,8 +1,6 @@
 -- `labelled` meets its contract. The two counts and then the rows, each by the answer before it.
-use native.Mathlib.Omega.{arith}
 use mathlib.Core.Path.{sym, ◌∙◌}
 use lib.ListN.{drop}
-use native.Mathlib.Nat.{mul-le-mul, mul_comm}
 use Rattle.values.specs.Limits.{most_states, most_atoms}
 use Rattle.form.specs.Form.{key_states, key_atoms}
 use Rattle.text.specs.Inside.{first, labelled_text, labelled_in}
@@ -34,8 +32,7 @@ rows-requires c =
     let y = c.count_line-second in
     let S = counted key_states 1 most_states 1 s (drop a.self.at s) x.result x.ensures c.in-Read.is in
     let A = counted key_atoms 0 most_atoms 2 s (drop c.in-Read.c.at s) y.result y.ensures c.in-Read-second.is in
-    let p = c.requires in
-    (omega (arith, mul-le-mul S.most A.most, mul_comm c.in-Read.s c.in-Read-second.a, p.0), omega (arith, S.most, p.1))
+    (S.most, A.most)
 
 pub returns : goal.returns
 unfolding labelled_text

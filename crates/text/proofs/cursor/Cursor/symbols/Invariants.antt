@@ -1,5 +1,5 @@
 -- `symbols` meets its contract. The symbols that are left to read and the text from here on read as the whole would.
-use Prim.Native.Nat.{◌-◌, ◌≤◌}
+use Prim.Native.Nat.{◌-◌}
 use mathlib.Core.Path.{◌≡◌}
 use lib.ListN.{drop}
 use Rattle.form.specs.Readers.{symbols}
@@ -7,7 +7,4 @@ use Rattle.text.specs.Inside.{bare}
 use Rattle.text.proofs.cursor.Cursor.symbols.Given as goal
 
 abbrev pub invariant-loop-j : goal.invariant-loop-j
-invariant-loop-j l = (l.j ≤ l.n) × (bare (symbols l.signs l.n (drop l.initial.i l.text)) ≡ bare (symbols l.signs (l.n - l.j) (drop l.i l.text)))
-
-abbrev pub decreases-loop-j : goal.decreases-loop-j
-decreases-loop-j l = l.n - l.j
+invariant-loop-j l = bare (symbols l.signs l.n (drop l.initial.i l.text)) ≡ bare (symbols l.signs (l.n - l._j) (drop l.i l.text))
