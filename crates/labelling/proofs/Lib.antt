@@ -1,4 +1,2 @@
-pub mod Parts
-pub mod Told
-pub mod Ranges
 pub mod Saying
+pub mod Keys

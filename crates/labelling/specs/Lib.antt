@@ -1,4 +1,3 @@
 pub mod Keys
 pub mod Lines
 pub mod Answers
-pub mod Inside

@@ -1,62 +1,62 @@
 -- What a line of the label desk says: a gate, one blank, a measurement.
-use Rattle.std.specs.Prelude.{ℕ, List, Bool, cond, ◌&&◌, length, drop, ltb, ℤ, pos, neg_ℤ, Float}
-use Rattle.std.proofs.Math.Option.{Option, none, some}
+use Rattle.std.specs.Prelude.{ℕ, List, cond, ◌&&◌, length, drop, ltb, ℤ, pos, neg_ℤ, Float, Option, None, Some, option_map, option_and_then}
 use Rattle.std.specs.Int.Signed.{le_z}
 use Rattle.values.specs.Signs.{comma}
 use Rattle.numerals.specs.Texts.{has, before, behind, begins_with}
-use Rattle.numerals.specs.Wholes.{whole, signed, made}
-use Rattle.numerals.specs.Decimals.{next}
+use Rattle.numerals.specs.Wholes.{whole, signed}
+use Rattle.numerals.specs.declared.wholes.Signed.{Signed}
 use Rattle.numerals.specs.Doubles.{double}
-use Rattle.readings.specs.Gates.{Limits, at_least, at_most, between}
+use Rattle.readings.specs.declared.gate.Gate.{Gate}
+use Rattle.readings.specs.declared.gate.Gate.TheVariants.{AtLeast, AtMost, Between}
 use Rattle.readings.specs.Delays.{turn, least_delay, greatest_delay}
 use Rattle.labelling.specs.Keys.{key_at_least, key_at_most, key_between, key_volts, key_ticks, blank, most_line}
 
 -- what a line says
 pub data Said : Type 0 where
-  volts : Limits Float → Float → Float → Said
-  ticks : Limits ℤ → ℕ → ℕ → Said
+  volts : Gate Float → Float → Float → Said
+  ticks : Gate ℤ → ℕ → ℕ → Said
   nothing : Said
 
 -- two numbers with a comma between them, by the reader of one
 unfoldable pub pair : {A : Type 0} → (List ℕ → Option A) → List ℕ → Option (A × A)
 pair {A} number xs =
-    cond (has comma xs) (next (number (before comma xs)) (λ (a : A). made (λ (b : A). (a, b)) (number (behind comma xs)))) none
+    cond (has comma xs) (option_and_then (λ (a : A). option_map (λ (b : A). (a, b)) (number (behind comma xs))) (number (before comma xs))) None
 
 -- a gate, by the reader of a limit
-unfoldable pub gate : {A : Type 0} → (List ℕ → Option A) → List ℕ → Option (Limits A)
+unfoldable pub gate : {A : Type 0} → (List ℕ → Option A) → List ℕ → Option (Gate A)
 gate {A} number xs =
-    cond (begins_with key_at_least xs) (made at_least (number (drop (length key_at_least) xs)))
-    (cond (begins_with key_at_most xs) (made at_most (number (drop (length key_at_most) xs)))
-    (cond (begins_with key_between xs) (made (λ (p : A × A). between p.0 p.1) (pair number (drop (length key_between) xs))) none))
+    cond (begins_with key_at_least xs) (option_map AtLeast (number (drop (length key_at_least) xs)))
+    (cond (begins_with key_at_most xs) (option_map AtMost (number (drop (length key_at_most) xs)))
+    (cond (begins_with key_between xs) (option_map (λ (p : A × A). Between p.0 p.1) (pair number (drop (length key_between) xs))) None))
 
 -- a whole number with its sign
-abbrev pub value_of : Bool → ℕ → ℤ
-value_of negative size = cond negative (neg_ℤ (pos size)) (pos size)
+abbrev pub value_of : Signed → ℤ
+value_of n = cond n.negative (neg_ℤ (pos n.size)) (pos n.size)
 
 -- a number that a delay can be
 unfoldable pub in_range : ℤ → Option ℤ
-in_range z = cond (le_z least_delay z && le_z z greatest_delay) (some z) none
+in_range z = cond (le_z least_delay z && le_z z greatest_delay) (Some z) None
 
 -- a limit of a delay
 unfoldable pub limit : List ℕ → Option ℤ
-limit xs = next (signed xs) (λ (p : Bool × ℕ). in_range (value_of p.0 p.1))
+limit xs = option_and_then (λ (n : Signed). in_range (value_of n)) (signed xs)
 
 -- a number that a counter can be
 unfoldable pub turned : ℕ → Option ℕ
-turned n = cond (ltb n turn) (some n) none
+turned n = cond (ltb n turn) (Some n) None
 
 unfoldable pub counter : List ℕ → Option ℕ
-counter xs = next (whole xs) turned
+counter xs = option_and_then turned (whole xs)
 
-abbrev pub volts_said : Option (Limits Float) → Option (Float × Float) → Said
-volts_said none p = nothing
-volts_said (some g) none = nothing
-volts_said (some g) (some p) = volts g p.0 p.1
+abbrev pub volts_said : Option (Gate Float) → Option (Float × Float) → Said
+volts_said None p = nothing
+volts_said (Some g) None = nothing
+volts_said (Some g) (Some p) = volts g p.0 p.1
 
-abbrev pub ticks_said : Option (Limits ℤ) → Option (ℕ × ℕ) → Said
-ticks_said none p = nothing
-ticks_said (some g) none = nothing
-ticks_said (some g) (some p) = ticks g p.0 p.1
+abbrev pub ticks_said : Option (Gate ℤ) → Option (ℕ × ℕ) → Said
+ticks_said None p = nothing
+ticks_said (Some g) None = nothing
+ticks_said (Some g) (Some p) = ticks g p.0 p.1
 
 -- a gate and a measurement: the measurement says of what kind both are
 unfoldable pub said_both : List ℕ → List ℕ → Said

@@ -1,32 +1,22 @@
--- A text cut at a byte: the two parts as a front and a rest of the text, and how a walk along it finds them.
-use mathlib.Core.Path.{◌≡◌, refl, sym, ap, ◌∙◌}
+-- A text cut at a byte: the two parts as a front and a rest of the text; and words that a text begins with or is.
+use mathlib.Core.Path.{◌≡◌, refl, sym, ap, ap₂, ◌∙◌}
 use Prim.Native.Nat.{ℕ, suc, ◌+◌, ◌≤◌, ◌<◌}
 use mathlib.Core.List.{List, [], ◌∷◌}
-use mathlib.Core.Bool.{Bool, true, false, cond}
+use mathlib.Core.Bool.{Bool, true, false, cond, not, ◌&&◌, true≢false}
 use native.Mathlib.Omega.{arith}
 use native.Mathlib.Numerals.{add-one}
-use lib.ListN.{length, take, drop, get_or, length-drop, drop_of_length-le}
-use lib.Seq.{drop-cons}
-use lib.Dec.{eqb}
-use borrow.Author.Tests.{eq-eqb, ne_eqb}
-use Rattle.numerals.specs.Texts.{has, before, behind, begins_with}
-
--- the entry at a place and what follows
-pub from_place : (xs : List ℕ) (i : ℕ) → i < length xs → drop i xs ≡ get_or xs i 0 ∷ drop (i + 1) xs
-from_place xs i h = rw (add-one, drop-cons xs i 0)
-
-module _ (b : ℕ) (xs : List ℕ) (i : ℕ) where
-  pub before_here : i < length xs → get_or xs i 0 ≡ b → length (before b (drop i xs)) ≡ 0
-  unfolding before
-  before_here h e = rw (from_place xs i h, eq-eqb (get_or xs i 0) b e)
-
-  pub before_on : i < length xs → (get_or xs i 0 ≡ b → ⊥) → length (before b (drop i xs)) ≡ suc (length (before b (drop (i + 1) xs)))
-  unfolding before
-  before_on h e = rw (from_place xs i h, ne_eqb (get_or xs i 0) b e)
-
-  pub before_end : length xs ≤ i → length (before b (drop i xs)) ≡ 0
-  unfolding before
-  before_end h = rw (drop_of_length-le xs h)
+use lib.ListN.{length, take, drop}
+use lib.Dec.{eqb, ltb}
+use lib.Pointwise.{pointwise, pointwise_long}
+use lib.Seq.{take_all}
+use borrow.Author.Tests.{lt-ltb, le-ltb, eqb-true, eqb-false}
+use Rattle.lists.proofs.Numbers.{lt_or_le}
+use mathlib.Core.Logic.{⊎_elim}
+use Rattle.std.specs.Prelude.{Option, Some, None, option_map, unwrap_or}
+use denote.Ref.{Bor}
+use Rattle.numerals.specs.Answers.{CutAt}
+use Rattle.std.specs.List.{position_or_len}
+use Rattle.numerals.specs.Texts.{has, before, behind, begins_with, same}
 
 -- the front up to the byte is what stands before it, the rest past it is what stands behind
 pub front_before : (b : ℕ) (xs : List ℕ) → take (length (before b xs)) xs ≡ before b xs
@@ -75,22 +65,42 @@ before_short b (x ∷ xs) = by_test (eqb x b) (before_short b xs)
     by_test true h = omega arith
     by_test false h = omega arith
 
-module _ (word text : List ℕ) (i : ℕ) where
-  pub begins_short : i < length word → length text ≤ i → begins_with (drop i word) (drop i text) ≡ false
-  unfolding begins_with
-  begins_short h k = rw (from_place word i h, drop_of_length-le text k)
+-- the place of the first such byte, or the length, is how many bytes stand before it
+place_before : (b : ℕ) (xs : List ℕ) → position_or_len (λ x. eqb x b) xs ≡ length (before b xs)
+unfolding before
+place_before b [] = refl
+place_before b (x ∷ xs) = by_test (eqb x b) (place_before b xs)
+  where
+    by_test : (t : Bool) → position_or_len (λ x. eqb x b) xs ≡ length (before b xs) → cond (not t) (1 + position_or_len (λ x. eqb x b) xs) 0 ≡ length (cond t [] (x ∷ before b xs))
+    by_test true h = refl
+    by_test false h = omega (arith, h)
 
-  pub begins_other : i < length word → i < length text → (get_or text i 0 ≡ get_or word i 0 → ⊥) → begins_with (drop i word) (drop i text) ≡ false
-  unfolding begins_with
-  begins_other h k e = rw (from_place word i h, from_place text i k, ne_eqb (get_or text i 0) (get_or word i 0) e)
+pub counted_before : (b : ℕ) (xs : List ℕ) (r : Option ℕ) → r ≡ cond (ltb (position_or_len (λ x. eqb x b) xs) (length xs)) (Some (position_or_len (λ x. eqb x b) xs)) None → unwrap_or r (length xs) ≡ length (before b xs)
+counted_before b xs r e =
+    ⊎_elim
+    (λ (h : length (before b xs) < length xs). rw (e, place_before b xs, lt-ltb _ _ h) refl)
+    (λ (h : length xs ≤ length (before b xs)). rw (e, place_before b xs, le-ltb _ _ h) (omega (arith, before_short b xs)))
+    (lt_or_le (length (before b xs)) (length xs))
 
-  pub begins_on : i < length word → i < length text → get_or text i 0 ≡ get_or word i 0 → begins_with (drop i word) (drop i text) ≡ begins_with (drop (i + 1) word) (drop (i + 1) text)
-  unfolding begins_with
-  begins_on h k e = rw (from_place word i h, from_place text i k, eq-eqb (get_or text i 0) (get_or word i 0) e)
+-- a text begins with a word if its front is the word, and is the word if each byte of both is
+pub begins_is : (word xs : List ℕ) → pointwise eqb (take (length word) xs) word ≡ begins_with word xs
+unfolding begins_with
+begins_is [] xs = refl
+begins_is (w ∷ ws) [] = refl
+begins_is (w ∷ ws) (x ∷ xs) = ap (λ (t : Bool). eqb x w && t) (begins_is ws xs)
 
-  pub begins_end : length word ≤ i → begins_with (drop i word) (drop i text) ≡ true
-  unfolding begins_with
-  begins_end h = rw (drop_of_length-le word h)
+pub same_is : (word xs : List ℕ) → pointwise eqb xs word ≡ same word xs
+unfolding same
+same_is word xs = by_length (eqb (length xs) (length word)) refl
+  where
+    other : (t : Bool) → pointwise eqb xs word ≡ t → (length xs ≡ length word → ⊥) → t ≡ false
+    other true p n = absurd (n (pointwise_long eqb xs word p))
+    other false p n = refl
+
+    by_length : (t : Bool) → eqb (length xs) (length word) ≡ t → pointwise eqb xs word ≡ (t && begins_with word xs)
+    by_length true q =
+        ap (λ (l : List ℕ). pointwise eqb l word) (sym (take_all (length word) xs (omega (arith, eqb-true (length xs) (length word) q)))) ∙ begins_is word xs
+    by_length false q = other (pointwise eqb xs word) refl (eqb-false (length xs) (length word) q)
 
 -- the same by a count of the bytes before
 module _ (b : ℕ) (xs : List ℕ) (place : ℕ) (counted : place ≡ length (before b xs)) where
@@ -109,6 +119,12 @@ module _ (b : ℕ) (xs : List ℕ) (place : ℕ) (counted : place ≡ length (be
   pub place_within : (place ≡ length xs → ⊥) → place < length xs
   place_within n = omega (arith, before_short b xs)
 
--- the byte itself stands between the two parts
-pub cut_length : (b : ℕ) (xs : List ℕ) → length (before b xs) < length xs → length xs ≡ length (before b xs) + 1 + length (behind b xs)
-cut_length b xs h = omega (arith, ap length (rest_behind b xs), length-drop (suc (length (before b xs))) xs)
+-- any two answers that `split_once` may give are both none, or both the same two parts
+abbrev pub parts : Bor (List ℕ) × Bor (List ℕ) → List ℕ × List ℕ
+parts p = (p.0.now, p.1.now)
+
+pub cut_one : (b : ℕ) (xs : List ℕ) (r r' : Option (Bor (List ℕ) × Bor (List ℕ))) → CutAt b xs r → CutAt b xs r' → option_map parts r ≡ option_map parts r'
+cut_one b xs (Some p) (Some q) c d = ap₂ (λ (x y : List ℕ). Some (x, y)) (c.1 ∙ sym d.1) (c.2 ∙ sym d.2)
+cut_one b xs (Some p) None c d = absurd (true≢false (sym c.0 ∙ d))
+cut_one b xs None (Some q) c d = absurd (true≢false (sym d.0 ∙ c))
+cut_one b xs None None c d = refl

@@ -3,4 +3,3 @@ pub mod Wholes
 pub mod Decimals
 pub mod Doubles
 pub mod Answers
-pub mod Inside

@@ -1,8 +1,8 @@
 -- Whole numbers in decimal.
-use Rattle.std.specs.Prelude.{ℕ, ◌+◌, ◌-◌, ◌*◌, List, [], ◌∷◌, Bool, true, false, cond, not, ◌&&◌, ◌||◌, length, drop, eqb, leb, ltb}
-use Rattle.std.proofs.Math.Option.{Option, none, some}
+use Rattle.std.specs.Prelude.{ℕ, ◌+◌, ◌-◌, ◌*◌, List, [], ◌∷◌, Bool, true, false, cond, not, ◌&&◌, ◌||◌, length, drop, eqb, leb, ltb, Option, None, Some, option_map, option_and_then}
 use Rattle.lists.specs.Entries.{at}
 use Rattle.numerals.specs.Texts.{begins_with}
+use Rattle.numerals.specs.declared.wholes.Signed.{Signed}
 
 -- a number of so many digits is a double exactly
 abbrev pub most_digits : ℕ
@@ -15,14 +15,14 @@ minus = 45 ∷ []
 abbrev pub zero_digit : ℕ
 zero_digit = 48
 
--- the value of a digit, 10 for any other byte
-unfoldable pub digit_of : ℕ → ℕ
-digit_of b = cond (leb zero_digit b && leb b 57) (b - zero_digit) 10
+-- the value of a digit; another byte has none
+unfoldable pub digit_of : ℕ → Option ℕ
+digit_of b = cond (leb zero_digit b && leb b 57) (Some (b - zero_digit)) None
 
 -- what digits say behind a number n; another byte among them says nothing
 unfoldable pub digits_from : ℕ → List ℕ → Option ℕ
-digits_from n [] = some n
-digits_from n (x ∷ xs) = cond (ltb (digit_of x) 10) (digits_from (n * 10 + digit_of x) xs) none
+digits_from n [] = Some n
+digits_from n (x ∷ xs) = option_and_then (λ (d : ℕ). digits_from (n * 10 + d) xs) (digit_of x)
 
 -- no leading zeros: a first 0 is alone
 unfoldable pub plain : List ℕ → Bool
@@ -30,13 +30,12 @@ plain xs = ltb 0 (length xs) && (eqb (length xs) 1 || not (eqb (at xs 0) zero_di
 
 -- a whole number without leading zeros, of at most so many digits
 unfoldable pub whole : List ℕ → Option ℕ
-whole xs = cond (plain xs && leb (length xs) most_digits) (digits_from 0 xs) none
+whole xs = cond (plain xs && leb (length xs) most_digits) (digits_from 0 xs) None
 
--- what was read, made another thing
-abbrev pub made : {A B : Type 0} → (A → B) → Option A → Option B
-made f none = none
-made f (some a) = some (f a)
+-- a size and whether a - stands before it
+abbrev pub with_sign : Bool → ℕ → Signed
+with_sign negative size = record { negative = negative; size = size }
 
--- a whole number with an optional - before it: whether that is there, and the size
-unfoldable pub signed : List ℕ → Option (Bool × ℕ)
-signed xs = cond (begins_with minus xs) (made (λ (n : ℕ). (true, n)) (whole (drop 1 xs))) (made (λ (n : ℕ). (false, n)) (whole xs))
+-- a whole number with an optional - before it
+unfoldable pub signed : List ℕ → Option Signed
+signed xs = cond (begins_with minus xs) (option_map (with_sign true) (whole (drop 1 xs))) (option_map (with_sign false) (whole xs))

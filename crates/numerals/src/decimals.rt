@@ -2,92 +2,83 @@
 ghost use Rattle.std.specs.Prelude.{◌≡◌, ◌+◌, ◌≤◌, ◌^◌, ◌<◌, length};
 ghost use Rattle.numerals.specs.Wholes.{most_digits};
 ghost use Rattle.numerals.specs.Decimals.{pointed, mantissa, exponent, upward, downward};
-ghost use Rattle.numerals.specs.Inside.{mantissa_told, with_fraction};
-ghost use Rattle.numerals.specs.Answers.{signed_told};
 
-use crate::texts::{count_before, front, rest};
-use crate::wholes::{MOST_DIGITS, Signed, Whole, digits_from, read_signed, read_whole};
+use crate::texts::split_once;
+use crate::wholes::{MOST_DIGITS, Signed, digits_from, read_signed, read_whole};
 
-#[derive(Drop)]
-pub(crate) enum Mantissa {
-    Is(u64, u64),
-    None,
+// The number that all digits say, and how many of them stand behind the point.
+#[derive(Clone, Copy, PartialEq, Eq, Debug)]
+pub(crate) struct Mantissa {
+    pub(crate) digits: u64,
+    pub(crate) fraction: u64,
 }
 
 // A power of ten, ten to the one over ten to the other.
-#[derive(Drop)]
+#[derive(Clone, Copy, PartialEq, Eq, Debug)]
 pub(crate) struct Power {
     pub(crate) up: u64,
     pub(crate) down: u64,
 }
 
-fn with_fraction(digits: Whole, fraction: u64) -> Mantissa
-    ensures { result ≡ with_fraction digits fraction }
-{
-    match digits {
-        Whole::Is(n) => Mantissa::Is(n, fraction),
-        Whole::None => Mantissa::None,
-    }
-}
-
 // The digits before a point and those behind it, at least one and not too many in all.
-fn read_pointed(text: &[u8], fraction: &[u8]) -> Mantissa
+#[tactic(auto, using(crate::proofs::Bounds::room_behind), unfolding(crate::specs::Decimals::pointed))]
+fn read_pointed(text: &[u8], fraction: &[u8]) -> Option<Mantissa>
     requires { (0 < length fraction.now) × (length text.now + length fraction.now ≤ most_digits) }
-    ensures { result ≡ mantissa_told (pointed text.now fraction.now) }
+    ensures { result ≡ pointed text.now fraction.now }
 {
-    let Whole::Is(n) = read_whole(text) else {
-        return Mantissa::None;
-    };
-    with_fraction(digits_from(n, fraction), fraction.len() as u64)
+    let digits = digits_from(read_whole(text)?, fraction)?;
+    Some(Mantissa {
+        digits,
+        fraction: fraction.len() as u64,
+    })
 }
 
-pub(crate) fn read_mantissa(text: &[u8]) -> Mantissa
-    ensures { result ≡ mantissa_told (mantissa text.now) }
+#[tactic(auto, unfolding(crate::specs::Decimals::mantissa))]
+pub(crate) fn read_mantissa(text: &[u8]) -> Option<Mantissa>
+    ensures { result ≡ mantissa text.now }
 {
-    let at = count_before(text, b'.');
-    if at == text.len() {
-        return with_fraction(read_whole(text), 0);
-    }
-    let fraction = rest(text, at + 1);
+    let Some((whole, fraction)) = split_once(text, b'.') else {
+        return read_whole(text).map(|digits| Mantissa {
+            digits,
+            fraction: 0,
+        });
+    };
     if fraction.len() == 0 {
-        return Mantissa::None;
+        return None;
     }
-    if MOST_DIGITS + 1 < text.len() {
-        return Mantissa::None;
+    if MOST_DIGITS < whole.len() + fraction.len() {
+        return None;
     }
-    read_pointed(front(text, at), fraction)
+    read_pointed(whole, fraction)
 }
 
 // What stands behind the e, 0 where there is none.
-pub(crate) fn read_exponent(text: &[u8]) -> Signed
-    ensures { result ≡ signed_told (exponent text.now) }
+#[tactic(auto, unfolding(crate::specs::Decimals::exponent))]
+pub(crate) fn read_exponent(text: &[u8]) -> Option<Signed>
+    ensures { result ≡ exponent text.now }
 {
-    let at = count_before(text, b'e');
-    if at == text.len() {
-        return Signed::Is(false, 0);
+    match split_once(text, b'e') {
+        Some((_, behind)) => read_signed(behind),
+        None => Some(Signed {
+            negative: false,
+            size: 0,
+        }),
     }
-    read_signed(rest(text, at + 1))
 }
 
 // The exponent less the digits behind the point.
-pub(crate) fn net_power(fraction: u64, less: bool, size: u64) -> Power
-    requires { (fraction ≤ most_digits) × (size < 10 ^ most_digits) }
-    ensures { (result.up ≡ upward fraction less size) × (result.down ≡ downward fraction less size) }
+pub(crate) fn net_power(fraction: u64, exponent: Signed) -> Power
+    requires { (fraction ≤ most_digits) × (exponent.size < 10 ^ most_digits) }
+    ensures { (result.up ≡ upward fraction exponent) × (result.down ≡ downward fraction exponent) }
 {
-    if less {
+    if exponent.negative {
         return Power {
             up: 0,
-            down: fraction + size,
-        };
-    }
-    if fraction <= size {
-        return Power {
-            up: size - fraction,
-            down: 0,
+            down: fraction + exponent.size,
         };
     }
     Power {
-        up: 0,
-        down: fraction - size,
+        up: exponent.size.saturating_sub(fraction),
+        down: fraction.saturating_sub(exponent.size),
     }
 }

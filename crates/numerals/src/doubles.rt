@@ -6,10 +6,9 @@ ghost use Rattle.std.specs.Float.Ieee.Exact.{HasValue};
 ghost use Rattle.numerals.specs.Wholes.{most_digits};
 ghost use Rattle.numerals.specs.Decimals.{most_power};
 ghost use Rattle.numerals.specs.Doubles.{nearest, scaled, decimal, magnitude, double};
-ghost use Rattle.numerals.specs.Answers.{double_told};
 
-use crate::decimals::{Mantissa, net_power, read_exponent, read_mantissa};
-use crate::texts::{begins_with, count_before, front, is_same, rest};
+use crate::decimals::{Mantissa, Power, net_power, read_exponent, read_mantissa};
+use crate::texts::{count_before, front};
 use crate::wholes::Signed;
 
 const TENS: [f64; 23] = [
@@ -18,12 +17,6 @@ const TENS: [f64; 23] = [
 ];
 
 const MOST_POWER: u64 = 22;
-
-#[derive(Clone, Copy)]
-pub enum Double {
-    Is(f64),
-    None,
-}
 
 fn ten(k: u64) -> f64
     requires { k ≤ most_power }
@@ -43,42 +36,37 @@ fn exact(negative: bool, n: u64) -> f64
     n as f64
 }
 
-fn rounded(negative: bool, n: u64, up: u64, down: u64) -> f64
-    requires { (n < 10 ^ most_digits) × (up ≤ most_power) × (down ≤ most_power) × ((up ≡ 0) ⊎ (down ≡ 0)) }
-    ensures { result ≡ nearest negative n up down }
+fn rounded(negative: bool, n: u64, power: Power) -> f64
+    requires { (n < 10 ^ most_digits) × (power.up ≤ most_power) × (power.down ≤ most_power) × ((power.up ≡ 0) ⊎ (power.down ≡ 0)) }
+    ensures { result ≡ nearest negative n power.up power.down }
 {
     let x = exact(negative, n);
-    if down == 0 {
-        return x * ten(up);
+    if power.down == 0 {
+        return x * ten(power.up);
     }
-    x / ten(down)
+    x / ten(power.down)
 }
 
-fn scale(negative: bool, n: u64, fraction: u64, less: bool, size: u64) -> Double
-    requires { (n < 10 ^ most_digits) × (fraction ≤ most_digits) × (size < 10 ^ most_digits) }
-    ensures { result ≡ double_told (scaled negative n fraction less size) }
+fn scale(negative: bool, mantissa: Mantissa, exponent: Signed) -> Option<f64>
+    requires { (mantissa.digits < 10 ^ most_digits) × (mantissa.fraction ≤ most_digits) × (exponent.size < 10 ^ most_digits) }
+    ensures { result ≡ scaled negative mantissa exponent }
 {
-    let p = net_power(fraction, less, size);
-    if MOST_POWER < p.up {
-        return Double::None;
+    let power = net_power(mantissa.fraction, exponent);
+    if MOST_POWER < power.up {
+        return None;
     }
-    if MOST_POWER < p.down {
-        return Double::None;
+    if MOST_POWER < power.down {
+        return None;
     }
-    Double::Is(rounded(negative, n, p.up, p.down))
+    Some(rounded(negative, mantissa.digits, power))
 }
 
-fn read_decimal(negative: bool, text: &[u8]) -> Double
-    ensures { result ≡ double_told (decimal negative text.now) }
+#[tactic(auto, using(crate::proofs::Cuts::front_before, crate::proofs::Bounds::mantissa_small, crate::proofs::Bounds::exponent_small), unfolding(crate::specs::Doubles::decimal))]
+fn read_decimal(negative: bool, text: &[u8]) -> Option<f64>
+    ensures { result ≡ decimal negative text.now }
 {
-    let at = count_before(text, b'e');
-    let Mantissa::Is(n, fraction) = read_mantissa(front(text, at)) else {
-        return Double::None;
-    };
-    let Signed::Is(less, size) = read_exponent(text) else {
-        return Double::None;
-    };
-    scale(negative, n, fraction, less, size)
+    let mantissa = read_mantissa(front(text, count_before(text, b'e')))?;
+    scale(negative, mantissa, read_exponent(text)?)
 }
 
 fn infinity(negative: bool) -> f64
@@ -90,23 +78,26 @@ fn infinity(negative: bool) -> f64
     1.0 / 0.0
 }
 
-fn read_magnitude(negative: bool, text: &[u8]) -> Double
-    ensures { result ≡ double_told (magnitude negative text.now) }
+#[tactic(auto, using(crate::proofs::Cuts::same_is), unfolding(crate::specs::Doubles::magnitude))]
+fn read_magnitude(negative: bool, text: &[u8]) -> Option<f64>
+    ensures { result ≡ magnitude negative text.now }
 {
-    if is_same(text, b"inf") {
-        return Double::Is(infinity(negative));
+    if text == b"inf".as_slice() {
+        return Some(infinity(negative));
     }
     read_decimal(negative, text)
 }
 
-pub fn read_double(text: &[u8]) -> Double
-    ensures { result ≡ double_told (double text.now) }
+// The double that a text stands for: nan, inf, -inf or a decimal; none where it is no such text or its power of ten is none of a double.
+#[tactic(auto, using(crate::proofs::Cuts::same_is, crate::proofs::Cuts::begins_is), unfolding(crate::specs::Doubles::double))]
+pub fn read_double(text: &[u8]) -> Option<f64>
+    ensures { result ≡ double text.now }
 {
-    if is_same(text, b"nan") {
-        return Double::Is(0.0 / 0.0);
+    if text == b"nan".as_slice() {
+        return Some(0.0 / 0.0);
     }
-    if begins_with(text, b"-") {
-        return read_magnitude(true, rest(text, 1));
+    if let Some(magnitude) = text.strip_prefix(b"-") {
+        return read_magnitude(true, magnitude);
     }
     read_magnitude(false, text)
 }

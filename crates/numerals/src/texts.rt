@@ -1,63 +1,45 @@
-// A text cut at a byte, and what it begins with.
+// A text cut at a byte.
 ghost use Rattle.std.specs.Prelude.{◌≡◌, length, take, drop};
-ghost use Rattle.numerals.specs.Texts.{before, begins_with, same};
+ghost use Rattle.numerals.specs.Texts.{before, begins_with};
+ghost use Rattle.numerals.specs.Answers.{CutAt};
 
 // How many bytes stand before the first of this kind; all of them where there is none.
 pub fn count_before(text: &[u8], byte: u8) -> usize
     ensures { result ≡ length (before byte text.now) }
 {
-    let n = text.len();
-    let mut i: usize = 0;
-    while i < n {
-        if text[i] == byte {
-            return i;
-        }
-        i += 1;
-    }
-    n
+    text.iter().position(|b| *b == byte).unwrap_or(text.len())
 }
 
 // The first bytes of a text; all of them where it has no more.
 pub fn front(text: &[u8], count: usize) -> &[u8]
     ensures { result.now ≡ take count text.now }
 {
-    if text.len() < count {
-        return text;
-    }
-    &text[..count]
+    &text[..count.min(text.len())]
 }
 
 // The bytes behind the first ones.
 pub fn rest(text: &[u8], count: usize) -> &[u8]
     ensures { result.now ≡ drop count text.now }
 {
-    if text.len() < count {
-        return &text[..0];
-    }
-    &text[count..]
+    &text[count.min(text.len())..]
 }
 
+// What stands before the first byte of this kind and what stands behind it, if there is one.
+pub fn split_once(text: &[u8], byte: u8) -> Option<(&[u8], &[u8])>
+    ensures { CutAt byte text.now result }
+{
+    let at = count_before(text, byte);
+    if at == text.len() {
+        return None;
+    }
+    Some((front(text, at), rest(text, at + 1)))
+}
+
+// Whether a text begins with a word.
+// kept: a public function stays, also where no call within is left of it.
+#[tactic(auto, using(crate::proofs::Cuts::begins_is))]
 pub fn begins_with(text: &[u8], word: &[u8]) -> bool
     ensures { result ≡ begins_with word.now text.now }
 {
-    let mut i: usize = 0;
-    while i < word.len() {
-        if text.len() <= i {
-            return false;
-        }
-        if text[i] != word[i] {
-            return false;
-        }
-        i += 1;
-    }
-    true
-}
-
-pub(crate) fn is_same(text: &[u8], word: &[u8]) -> bool
-    ensures { result ≡ same word.now text.now }
-{
-    if text.len() != word.len() {
-        return false;
-    }
-    begins_with(text, word)
+    text.strip_prefix(word).is_some()
 }

@@ -4,3 +4,4 @@ pub mod Gates
 pub mod Turns
 pub mod Bits
 pub mod Meaning
+pub mod Comparing

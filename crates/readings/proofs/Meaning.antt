@@ -5,7 +5,9 @@ use mathlib.Core.Bool.{Bool, true, false, not, cond, ◌||◌, and-false, or-tru
 use mathlib.Core.Logic.{◌⊎◌, inl, inr, ⊎_elim}
 use native.Mathlib.Omega.{arith}
 use Rattle.lists.proofs.Tests.{and_both, and_parts}
-use Rattle.readings.specs.Gates.{Limits, at_least, at_most, between, sound, not_below, not_above, inside, wholly_inside, wholly_outside, three_way, measured}
+use Rattle.readings.specs.declared.gate.Gate.{Gate}
+use Rattle.readings.specs.declared.gate.Gate.TheVariants.{AtLeast, AtMost, Between}
+use Rattle.readings.specs.Gates.{sound, not_below, not_above, inside, wholly_inside, wholly_outside, three_way, measured}
 use Rattle.readings.proofs.Orders.{Order}
 
 -- which tests a label comes from: the ends in order, all inside, all outside
@@ -40,19 +42,19 @@ either_fails false q e = inl refl
 
 module _ {A : Type 0} (le : A → A → Bool) (o : Order le) where
   -- a greater value isn't below the gate either, a smaller one not above
-  up : (gate : Limits A) (v w : A) → le v w ≡ true → not_below le gate v ≡ true → not_below le gate w ≡ true
+  up : (gate : Gate A) (v w : A) → le v w ≡ true → not_below le gate v ≡ true → not_below le gate w ≡ true
   unfolding not_below
-  up (at_least x) v w h e = o.through x v w e h
-  up (at_most x) v w h e = refl
-  up (between a b) v w h e = o.through a v w e h
+  up (AtLeast x) v w h e = o.through x v w e h
+  up (AtMost x) v w h e = refl
+  up (Between a b) v w h e = o.through a v w e h
 
-  down : (gate : Limits A) (v w : A) → le v w ≡ true → not_above le gate w ≡ true → not_above le gate v ≡ true
+  down : (gate : Gate A) (v w : A) → le v w ≡ true → not_above le gate w ≡ true → not_above le gate v ≡ true
   unfolding not_above
-  down (at_least x) v w h e = refl
-  down (at_most x) v w h e = o.through v w x h e
-  down (between a b) v w h e = o.through v w b h e
+  down (AtLeast x) v w h e = refl
+  down (AtMost x) v w h e = o.through v w x h e
+  down (Between a b) v w h e = o.through v w b h e
 
-  module _ (gate : Limits A) (l g : A) where
+  module _ (gate : Gate A) (l g : A) where
     -- true: both ends lie inside; false: all is below, or all above
     true_ends : measured le gate l g ≡ 2 → (le l g ≡ true) × ((not_below le gate l ≡ true) × (not_above le gate g ≡ true))
     unfolding measured three_way wholly_inside inside
@@ -126,17 +128,17 @@ module _ {A : Type 0} (le : A → A → Bool) (o : Order le) where
           (split (not_below le gate g))
 
   -- a measurement that is neither below a sound gate nor above it has a possible value inside
-  meets : (gate : Limits A) (l g : A) → sound le gate ≡ true → le l g ≡ true → not_below le gate g ≡ true → not_above le gate l ≡ true
+  meets : (gate : Gate A) (l g : A) → sound le gate ≡ true → le l g ≡ true → not_below le gate g ≡ true → not_above le gate l ≡ true
       → ((v : A) → (le l v ≡ true) × (le v g ≡ true) → inside le gate v ≡ false) → ⊥
   unfolding sound not_below not_above inside
-  meets (at_least x) l g ok whole p q f = true≢false (sym (and_both (le x g) true p refl) ∙ f g (whole, o.second l g whole))
-  meets (at_most x) l g ok whole p q f = true≢false (sym q ∙ f l (o.first l g whole, whole))
-  meets (between a b) l g ok whole p q f =
+  meets (AtLeast x) l g ok whole p q f = true≢false (sym (and_both (le x g) true p refl) ∙ f g (whole, o.second l g whole))
+  meets (AtMost x) l g ok whole p q f = true≢false (sym q ∙ f l (o.first l g whole, whole))
+  meets (Between a b) l g ok whole p q f =
       ⊎_elim (λ (h : le a l ≡ true). true≢false (sym (and_both (le a l) (le l b) h q) ∙ f l (o.first l g whole, whole)))
       (λ (h : le l a ≡ true). true≢false (sym (and_both (le a a) (le a b) (o.first a b ok) ok) ∙ f a (h, p)))
       (o.either a l (o.first a b ok) (o.first l g whole))
 
-  pub none_false : (gate : Limits A) (l g : A) → sound le gate ≡ true → le l g ≡ true → ((v : A) → (le l v ≡ true) × (le v g ≡ true) → inside le gate v ≡ false) → measured le gate l g ≡ 0
+  pub none_false : (gate : Gate A) (l g : A) → sound le gate ≡ true → le l g ≡ true → ((v : A) → (le l v ≡ true) × (le v g ≡ true) → inside le gate v ≡ false) → measured le gate l g ≡ 0
   none_false gate l g ok whole f =
       ⊎_elim
       (λ (p : not_below le gate g ≡ true).
@@ -145,7 +147,7 @@ module _ {A : Type 0} (le : A → A → Bool) (o : Order le) where
       (split (not_below le gate g))
 
   -- a narrower measurement never contradicts
-  module _ (gate : Limits A) (l g l' g' : A) (least : le l l' ≡ true) (within : le l' g' ≡ true) (greatest : le g' g ≡ true) where
+  module _ (gate : Gate A) (l g l' g' : A) (least : le l l' ≡ true) (within : le l' g' ≡ true) (greatest : le g' g ≡ true) where
     pub narrower_true : measured le gate l g ≡ 2 → measured le gate l' g' ≡ 2
     narrower_true e = let t = true_ends gate l g e in ends_true gate l' g' within (up gate l l' least t.1.0) (down gate g' g greatest t.1.1)
 

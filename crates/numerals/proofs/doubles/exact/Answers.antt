@@ -10,19 +10,11 @@ use mir.Facts.{yes_leb}
 use Rattle.numerals.proofs.Rounding.{negated, whole_exact}
 use Rattle.numerals.proofs.doubles.exact.Goals as goal
 
-pub int_to_float-result : goal.int_to_float-result
-unfolding in_float
-int_to_float-result c = yes_leb {a = c.args.n} {b = 2 ^ prec binary64} (omega arith)
-
 pub returns-then-negative : goal.returns-then-negative
 returns-then-negative c =
     let n = c.args.n in
     let x = of_int binary64 (pos n) in
     subst⁻¹ (λ (s : Bool). HasValue (neg x) s n 1) c.if-negative.true (negated x n 1 (whole_exact n (omega arith)))
-
-pub int_to_float-result-2 : goal.int_to_float-result-2
-unfolding in_float
-int_to_float-result-2 c = yes_leb {a = c.args.n} {b = 2 ^ prec binary64} (omega arith)
 
 pub returns : goal.returns
 returns c =

@@ -1,28 +1,34 @@
--- `read_double` meets its contract: NaN by its word, or a magnitude behind its sign.
-use mathlib.Core.Path.{ap, sym, ◌∙◌}
+-- `read_double` meets its contract: NaN by its word, or what stands behind an optional -.
+use mathlib.Core.Path.{◌≡◌, refl, sym, ap, ◌∙◌}
 use Prim.Native.Nat.{ℕ}
-use mathlib.Core.Bool.{true}
 use mathlib.Core.List.{List}
+use mathlib.Core.Bool.{Bool}
+use lib.Dec.{eqb}
 use lib.Ieee.{div, of_bits}
-use Rattle.numerals.specs.Doubles.{magnitude}
-use Rattle.numerals.specs.Answers.{double_told}
-use Rattle.numerals.proofs.Forms.{double_nan, double_minus, double_bare}
+use lib.Pointwise.{pointwise}
+use Rattle.std.proofs.Common.{rules}
+use Rattle.numerals.specs.Texts.{same}
+use Rattle.numerals.specs.Wholes.{minus}
+use Rattle.numerals.specs.Doubles.{nan_word, double}
+use Rattle.numerals.proofs.Cuts.{same_is, begins_is}
 use Rattle.numerals.proofs.doubles.read_double.Goals as goal
 
-pub returns-then-is_same : goal.returns-then-is_same
-unfolding div of_bits
-returns-then-is_same c = ap double_told (sym (double_nan c.args.text.now (sym c.is_same.ensures ∙ c.if-is_same.true)))
+-- whether the text is the word that it was compared with
+compared : (xs word : List ℕ) (t : Bool) → word ≡ nan_word → t ≡ pointwise eqb xs word → same nan_word xs ≡ t
+compared xs word t e h = sym (same_is nan_word xs) ∙ ap (pointwise eqb xs) (sym e) ∙ sym h
 
-pub returns-then-begins_with : goal.returns-then-begins_with
-returns-then-begins_with c =
-    let xs = c.args.text.now in
-    let other = sym c.is_same.ensures ∙ c.if-is_same.false in
-    let minus = sym c.begins_with.ensures ∙ c.if-begins_with.true in
-    c.read_magnitude.ensures ∙ ap (λ (l : List ℕ). double_told (magnitude true l)) c.rest.ensures ∙ ap double_told (sym (double_minus xs other minus))
+pub returns-then-eq : goal.returns-then-eq
+unfolding double div of_bits
+returns-then-eq c = rw (compared c.args.text.now _ _ c.as_slice.ensures c.if-eq.ensures) refl
+
+pub returns-in-Some : goal.returns-in-Some
+unfolding double
+returns-in-Some c =
+    let s = sym (begins_is minus c.args.text.now) ∙ c.in-Some.ensures.cases.0 in
+    rw (compared c.args.text.now _ _ c.as_slice.ensures c.if-eq.ensures, s) (search rules)
 
 pub returns : goal.returns
+unfolding double
 returns c =
-    let xs = c.args.text.now in
-    let other = sym c.is_same.ensures ∙ c.if-is_same.false in
-    let bare = sym c.begins_with.ensures ∙ c.if-begins_with.false in
-    c.read_magnitude-2.ensures ∙ ap double_told (sym (double_bare xs other bare))
+    let s = sym (begins_is minus c.args.text.now) ∙ c.in_default.ensures.cases in
+    rw (compared c.args.text.now _ _ c.as_slice.ensures c.if-eq.ensures, s) (search rules)

@@ -1,21 +1,20 @@
 -- `digits_from` meets its contract: the digits passed and the rest say what the whole text does, and there is room for the rest.
-use mathlib.Core.Path.{◌≡◌, refl, ap, sym, ◌∙◌}
+use mathlib.Core.Path.{◌≡◌, sym, ◌∙◌}
 use Prim.Native.Nat.{ℕ, suc, ◌+◌, ◌-◌, ◌*◌, ◌^◌, ◌≤◌, ◌<◌}
-use native.Mathlib.Nat.{sub-zero}
 use native.Mathlib.Omega.{arith}
-use lib.ListN.{length, drop}
-use Rattle.numerals.specs.Wholes.{most_digits, digits_from}
-use Rattle.numerals.specs.Answers.{whole_told}
-use Rattle.numerals.proofs.Digits.{digits_on, digits_other, digits_end, grown_room, room_small}
+use lib.ListN.{length, get_or}
+use Rattle.std.specs.Prelude.{Some}
+use Rattle.numerals.specs.Wholes.{most_digits, digit_of}
+use Rattle.numerals.proofs.Digits.{digits_on, digits_other, digits_end, digit_small, grown_room, room_small}
 use Rattle.numerals.proofs.wholes.digits_from.Goals as goal
+use Rattle.numerals.proofs.wholes.digits_from.Goals.{In_ok-n}
 
-pub loop-i-init : goal.loop-i-init
-loop-i-init c = (omega arith, rw sub-zero c.requires, refl)
+pub returns-in_err-n : goal.returns-in_err-n
+returns-in_err-n c =
+    c.from_residual.ensures ∙ sym (c.loop-byte.invariant.1 ∙ digits_other c.loop-byte.n c.args.text.now c.loop-byte.byte-index c.loop-byte-test.true (sym c.digit.ensures ∙ c.in_err-n.was))
 
-pub returns-then-d-gt9 : goal.returns-then-d-gt9
-returns-then-d-gt9 c =
-    let xs = c.args.text.now in
-    ap whole_told (sym (c.loop-i.invariant.2 ∙ digits_other c.loop-i.n xs c.loop-i.i (omega arith) (omega (arith, c.digit-d.ensures))))
+is_digit : (c : In_ok-n) → digit_of (get_or c.args.text.now c.loop-byte.byte-index 0) ≡ Some c.in_ok-n.field-0
+is_digit c = sym c.digit.ensures ∙ c.in_ok-n.was
 
 -- the room before a digit and behind it
 room : (n d i len : ℕ) → i < len → d < 10 → (n + 1) * 10 ^ (len - i) ≤ 10 ^ most_digits → (n * 10 + d + 1) * 10 ^ (len - (i + 1)) ≤ 10 ^ most_digits
@@ -23,25 +22,21 @@ room n d i len h k r =
     let e : len - i ≡ suc (len - (i + 1)) = omega arith in
     grown_room n d (len - (i + 1)) (10 ^ most_digits) k (rw e at r)
 
+room_left : (c : In_ok-n) → (c.loop-byte.n * 10 + c.in_ok-n.field-0 + 1) * 10 ^ (length c.args.text.now - (c.loop-byte.byte-index + 1)) ≤ 10 ^ most_digits
+room_left c =
+    room c.loop-byte.n c.in_ok-n.field-0 c.loop-byte.byte-index (length c.args.text.now) c.loop-byte-test.true (digit_small _ _ (is_digit c)) c.loop-byte.invariant.0
+
 pub overflow_mul-n : goal.overflow_mul-n
 overflow_mul-n c =
-    let d : c.digit-d.result < 10 = omega arith in
-    let r = room c.loop-i.n c.digit-d.result c.loop-i.i (length c.args.text.now) (omega arith) d c.loop-i.invariant.1 in
+    let r = room c.loop-byte.n 0 c.loop-byte.byte-index (length c.args.text.now) c.loop-byte-test.true (omega arith) c.loop-byte.invariant.0 in
     record { fits = omega (arith, room_small _ _ _ r) }
 
 pub overflow_add-n : goal.overflow_add-n
-overflow_add-n c =
-    let d : c.digit-d.result < 10 = omega arith in
-    let r = room c.loop-i.n c.digit-d.result c.loop-i.i (length c.args.text.now) (omega arith) d c.loop-i.invariant.1 in
-    record { fits = omega (arith, room_small _ _ _ r) }
+overflow_add-n c = record { fits = omega (arith, room_small _ _ _ (room_left c)) }
 
-pub loop-i-preserved : goal.loop-i-preserved
-loop-i-preserved c =
-    let xs = c.args.text.now in
-    let d : c.digit-d.result < 10 = omega arith in
-    let e = c.digit-d.ensures in
-    (omega arith, room c.loop-i.n c.digit-d.result c.loop-i.i (length xs) (omega arith) d c.loop-i.invariant.1, c.loop-i.invariant.2 ∙ digits_on c.loop-i.n xs c.loop-i.i (omega arith) (omega (arith, e)) ∙ ap (λ (x : ℕ). digits_from (c.loop-i.n * 10 + x) (drop (c.loop-i.i + 1) xs)) (sym e))
+pub loop-byte-preserved : goal.loop-byte-preserved
+loop-byte-preserved c =
+    (room_left c, c.loop-byte.invariant.1 ∙ digits_on c.loop-byte.n c.args.text.now c.loop-byte.byte-index c.in_ok-n.field-0 c.loop-byte-test.true (is_digit c))
 
 pub returns : goal.returns
-returns c =
-    ap whole_told (sym (c.loop-i.invariant.2 ∙ digits_end c.loop-i.n c.args.text.now c.loop-i.i (omega arith)))
+returns c = sym (c.loop-byte.invariant.1 ∙ digits_end c.loop-byte.n c.args.text.now c.loop-byte.byte-index (omega arith))

@@ -5,8 +5,6 @@ use lib.ListN.{length, drop}
 use Rattle.numerals.specs.Wholes.{most_digits, digits_from}
 use Rattle.numerals.proofs.wholes.digits_from.Given as goal
 
-abbrev pub invariant-loop-i : goal.invariant-loop-i
-invariant-loop-i l = (l.i ≤ length l.text) × ((l.n + 1) * 10 ^ (length l.text - l.i) ≤ 10 ^ most_digits) × (digits_from l.first l.text ≡ digits_from l.n (drop l.i l.text))
-
-abbrev pub decreases-loop-i : goal.decreases-loop-i
-decreases-loop-i l = length l.text - l.i
+abbrev pub invariant-loop-byte : goal.invariant-loop-byte
+invariant-loop-byte l =
+    ((l.n + 1) * 10 ^ (length l.text - l.byte-index) ≤ 10 ^ most_digits) × (digits_from l.first l.text ≡ digits_from l.n (drop l.byte-index l.text))

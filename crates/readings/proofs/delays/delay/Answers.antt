@@ -8,7 +8,7 @@ use lib.Signed.{mag, lt_z}
 use mir.Syntax.{w64}
 use mir.Val.{SFits, to_z, of_z}
 use Rattle.readings.specs.Delays.{turn, least_delay, greatest_delay, mod_turn}
-use Rattle.readings.proofs.Bits.{seen, seen_narrowed, wide_fits, narrow_fits, taken, apart_seen}
+use Rattle.readings.proofs.Bits.{seen_narrowed, taken, apart_seen}
 use Rattle.readings.proofs.Turns.{turn_more, turn_less, apart_small, grown_small, shrunk_small, between_small, delay_of}
 use borrow.Author.Rules.{rules}
 use Rattle.readings.proofs.delays.delay.Goals as goal
@@ -33,15 +33,6 @@ module _ (l e : ℕ) (hl : l < turn) (he : e < turn) where
   same : mod_turn (apart l e) ≡ mod_turn (pos l -ℤ pos e)
   same = ap mod_turn (apart_seen l e hl he)
 
-pub overflow_sub-apart : goal.overflow_sub-apart
-overflow_sub-apart c = apart_fits c.args.later c.args.earlier (search rules) (search rules)
-
-pub overflow_add-result : goal.overflow_add-result
-overflow_add-result c = wide_fits _ (grown c.args.later c.args.earlier (search rules) (search rules) c.if-apart-lt-LEAST_DELAY.true)
-
-pub overflow_cast-result : goal.overflow_cast-result
-overflow_cast-result c = narrow_fits (apart c.args.later c.args.earlier +ℤ pos turn) (grown c.args.later c.args.earlier (search rules) (search rules) c.if-apart-lt-LEAST_DELAY.true)
-
 pub returns-then-apart-lt-LEAST_DELAY : goal.returns-then-apart-lt-LEAST_DELAY
 returns-then-apart-lt-LEAST_DELAY c =
     let l = c.args.later in
@@ -50,13 +41,6 @@ returns-then-apart-lt-LEAST_DELAY c =
     let small = grown l e (search rules) (search rules) c.if-apart-lt-LEAST_DELAY.true in
     rw (seen_narrowed d small) (delay_of l e d small (turn_more (apart l e) ∙ same l e (search rules) (search rules)))
 
-pub overflow_sub-result : goal.overflow_sub-result
-overflow_sub-result c = wide_fits _ (shrunk c.args.later c.args.earlier (search rules) (search rules) c.if-apart-gt-GREATEST_DELAY.true)
-
-pub overflow_cast-result-then-apart-gt-GREATEST_DELAY : goal.overflow_cast-result-then-apart-gt-GREATEST_DELAY
-overflow_cast-result-then-apart-gt-GREATEST_DELAY c =
-    narrow_fits (apart c.args.later c.args.earlier -ℤ pos turn) (shrunk c.args.later c.args.earlier (search rules) (search rules) c.if-apart-gt-GREATEST_DELAY.true)
-
 pub returns-then-apart-gt-GREATEST_DELAY : goal.returns-then-apart-gt-GREATEST_DELAY
 returns-then-apart-gt-GREATEST_DELAY c =
     let l = c.args.later in
@@ -64,13 +48,3 @@ returns-then-apart-gt-GREATEST_DELAY c =
     let d = apart l e -ℤ pos turn in
     let small = shrunk l e (search rules) (search rules) c.if-apart-gt-GREATEST_DELAY.true in
     rw (seen_narrowed d small) (delay_of l e d small (turn_less (apart l e) ∙ same l e (search rules) (search rules)))
-
-pub overflow_cast-result-2 : goal.overflow_cast-result-2
-overflow_cast-result-2 c = record { sfits = kept c.args.later c.args.earlier (search rules) (search rules) c.if-apart-lt-LEAST_DELAY.false c.if-apart-gt-GREATEST_DELAY.false }
-
-pub returns : goal.returns
-returns c =
-    let l = c.args.later in
-    let e = c.args.earlier in
-    let small = kept l e (search rules) (search rules) c.if-apart-lt-LEAST_DELAY.false c.if-apart-gt-GREATEST_DELAY.false in
-    rw (seen (apart l e) small) (delay_of l e (apart l e) small (same l e (search rules) (search rules)))

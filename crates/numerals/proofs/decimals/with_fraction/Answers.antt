@@ -1,8 +1,0 @@
--- `with_fraction` meets its contract, case by case.
-use Rattle.numerals.proofs.decimals.with_fraction.Goals as goal
-
-pub returns-in-Is : goal.returns-in-Is
-returns-in-Is c = simp c.in-Is.is
-
-pub returns-in-None : goal.returns-in-None
-returns-in-None c = simp c.in-None.is
