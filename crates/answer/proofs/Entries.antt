@@ -3,7 +3,6 @@ use Prim.Native.Nat.{ℕ, zero, suc, ◌+◌, ◌-◌, ◌*◌, ◌≤◌, ◌<�
 use mathlib.Core.Path.{◌≡◌, refl, ap, sym, ◌∙◌}
 use mathlib.Core.List.{List, [], ◌∷◌, ◌++◌, append_assoc, append-nil}
 use native.Mathlib.Numerals.{add-one}
-use native.Mathlib.Nat.{zero-add}
 use native.Mathlib.Omega.{arith}
 use lib.ListN.{length, drop, length-append, length-drop}
 use lib.Seq.{drop-cons}
@@ -11,7 +10,7 @@ use Rattle.lists.specs.Entries.{at}
 use Rattle.values.specs.Signs.{decimal, stop_before, numbers_print}
 use Rattle.values.proofs.Decimals.{decimal_short}
 use Rattle.lists.specs.Rows.{Put}
-use Rattle.lists.proofs.Placed.{put_none, put_then}
+use Rattle.lists.proofs.Placed.{put_then}
 
 -- what is left from entry i on: its digits, what stands behind it, and the rest
 step : (path : List ℕ) (i : ℕ) → i < length path → numbers_print (drop i path) ≡ decimal (at path i) ++ (stop_before (length path - (i + 1)) ∷ numbers_print (drop (i + 1) path))
@@ -32,9 +31,6 @@ pub record Counted (path : List ℕ) (i size : ℕ) : Type 0 where
   pub whole : size + length (numbers_print (drop i path)) ≡ length (numbers_print path)
   pub few : size ≤ 6 * i
 
-pub counted_none : (path : List ℕ) → Counted path 0 0
-counted_none path = record { whole = zero-add (length (numbers_print path)); few = omega arith }
-
 pub counted_more : (path : List ℕ) (i size k : ℕ) → i < length path → Counted path i size → k ≡ length (decimal (at path i)) → Counted path (i + 1) (size + k + 1)
 counted_more path i size k h c e = record {
   whole = omega (arith, c.whole, ap length (step path i h), length-append (decimal (at path i)) (stop_before (length path - (i + 1)) ∷ numbers_print (drop (i + 1) path)));
@@ -54,9 +50,6 @@ pub record EntriesPut (path before now : List ℕ) (to place i : ℕ) : Type 0 w
   pub bytes : List ℕ
   pub put : Put before now to place bytes
   pub whole : bytes ++ numbers_print (drop i path) ≡ numbers_print path
-
-pub entries_none : (path before : List ℕ) (to : ℕ) → to ≤ length before → EntriesPut path before before to to 0
-entries_none path before to h = record { bytes = []; put = put_none before to h; whole = refl }
 
 -- there is room for one more
 pub entries_room : (path before now : List ℕ) (to place i : ℕ) → i < length path → EntriesPut path before now to place i

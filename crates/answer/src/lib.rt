@@ -41,80 +41,80 @@ pub fn longest() -> Lengths
     }
 }
 
-// What writing a line answers. Only `Bytes` changes the buffer.
-#[derive(Clone, Copy)]
-pub enum Written {
-    // So many bytes stand at the front of the buffer; the rest of it stays.
-    Bytes(usize),
+// Why no line was written. The buffer stays as it was.
+#[derive(Clone, Copy, PartialEq, Eq, Debug)]
+pub enum Unwritten {
     // The buffer is too short for the line.
     NoRoom,
     // What was given is no row, no verdict or no path: it has no line.
     NoLine,
 }
 
+// Each writer answers how many bytes stand at the front of the buffer; the rest of it stays.
+
 // answer=N
-pub fn write_number(number: u8, buffer: &mut [u8]) -> Written
+// kept: a number and no Refusal: 0 is written too, and what a public function takes gets no narrower.
+pub fn write_number(number: u8, buffer: &mut [u8]) -> Result<usize, Unwritten>
     ensures { LineWritten (number_due number) buffer.old buffer.new result }
 {
     let size = decimal_size(number as u16) + 8;
     if buffer.len() < size {
-        return Written::NoRoom;
+        return Err(Unwritten::NoRoom);
     }
     let a = put_bytes(b"answer=", buffer, 0);
     let b = put_decimal(number as u16, buffer, a);
     let end = put_byte(b'\n', buffer, b);
-    Written::Bytes(end)
+    Ok(end)
 }
 
 // row= and a letter a state
-pub fn write_row(states: usize, stored: &[u8], buffer: &mut [u8]) -> Written
+pub fn write_row(states: usize, stored: &[u8], buffer: &mut [u8]) -> Result<usize, Unwritten>
     ensures { LineWritten (row_due states stored.now) buffer.old buffer.new result }
 {
-    let row = read_row(states, stored);
-    if !row.valid {
-        return Written::NoLine;
-    }
+    let Some(row) = read_row(states, stored) else {
+        return Err(Unwritten::NoLine);
+    };
     if buffer.len() < states + 5 {
-        return Written::NoRoom;
+        return Err(Unwritten::NoRoom);
     }
     let a = put_bytes(b"row=", buffer, 0);
-    let b = put_letters(states, &row.values, buffer, a);
+    let b = put_letters(&row.values[..states], buffer, a);
     let end = put_byte(b'\n', buffer, b);
-    Written::Bytes(end)
+    Ok(end)
 }
 
 // model= and a letter
-pub fn write_model(verdict: Verdict, buffer: &mut [u8]) -> Written
+pub fn write_model(verdict: Verdict, buffer: &mut [u8]) -> Result<usize, Unwritten>
     ensures { LineWritten (model_due verdict.0) buffer.old buffer.new result }
 {
-    if Verdict::TRUE.0 < verdict.0 {
-        return Written::NoLine;
-    }
+    let Some(known) = Verdict::of(verdict.0) else {
+        return Err(Unwritten::NoLine);
+    };
     if buffer.len() < 8 {
-        return Written::NoRoom;
+        return Err(Unwritten::NoRoom);
     }
     let a = put_bytes(b"model=", buffer, 0);
-    let b = put_byte(letter(verdict.0), buffer, a);
+    let b = put_byte(letter(known), buffer, a);
     let end = put_byte(b'\n', buffer, b);
-    Written::Bytes(end)
+    Ok(end)
 }
 
 // path= and the states, commas between them
-pub fn write_path(path: &[u16], buffer: &mut [u8]) -> Written
+pub fn write_path(path: &[u16], buffer: &mut [u8]) -> Result<usize, Unwritten>
     ensures { LineWritten (path_due path.now) buffer.old buffer.new result }
 {
     let n = path.len();
     if n == 0 {
-        return Written::NoLine;
+        return Err(Unwritten::NoLine);
     }
     if MOST_STATES < n {
-        return Written::NoLine;
+        return Err(Unwritten::NoLine);
     }
     let size = entries_size(path) + 5;
     if buffer.len() < size {
-        return Written::NoRoom;
+        return Err(Unwritten::NoRoom);
     }
     let a = put_bytes(b"path=", buffer, 0);
     let end = put_entries(path, buffer, a);
-    Written::Bytes(end)
+    Ok(end)
 }

@@ -1,46 +1,41 @@
 // Bytes put into a buffer from a place on. Each function says the place behind what it put.
-ghost use Rattle.std.specs.Prelude.{◌≡◌, [], ◌∷◌, ℕ, ◌+◌, ◌<◌, ◌≤◌, length};
+ghost use Rattle.std.specs.Prelude.{◌≡◌, [], ◌∷◌, ℕ, ◌+◌, ◌<◌, ◌≤◌, length, map};
 ghost use Rattle.lists.specs.Entries.{at};
-ghost use Rattle.lists.specs.Rows.{tab};
 ghost use Rattle.values.specs.Values.{top};
 ghost use Rattle.values.specs.Limits.{most_states};
 ghost use Rattle.values.specs.Signs.{digits, decimal, numbers_print};
 ghost use Rattle.answer.specs.Lines.{letter_of};
 ghost use Rattle.lists.specs.Rows.{Put};
 
-// The letter of a value.
-pub(crate) fn letter(value: u8) -> u8
-    requires { value ≤ top }
-    ensures { result ≡ letter_of value }
+use values::verdict::Verdict;
+
+// The letter of a verdict.
+#[tactic(auto, unfolding(crate::specs::Lines::letter_of))]
+pub(crate) fn letter(verdict: Verdict) -> u8
+    requires { verdict.0 ≤ top }
+    ensures { result ≡ letter_of verdict.0 }
 {
-    if value == 0 {
-        return b'F';
+    match verdict {
+        Verdict::FALSE => b'F',
+        Verdict::UNKNOWN => b'U',
+        _ => b'T',
     }
-    if value == 1 {
-        return b'U';
-    }
-    b'T'
 }
 
 // How many digits a number has.
 pub(crate) fn decimal_size(number: u16) -> usize
     ensures { result ≡ length (decimal number) }
 {
-    if number < 10 {
-        return 1;
+    match number {
+        0..=9 => 1,
+        10..=99 => 2,
+        100..=999 => 3,
+        1000..=9999 => 4,
+        _ => 5,
     }
-    if number < 100 {
-        return 2;
-    }
-    if number < 1000 {
-        return 3;
-    }
-    if number < 10000 {
-        return 4;
-    }
-    5
 }
 
+// kept: the buffer and the place stay two parameters; a struct of both would be lent on to each function here, and promise of both what these do.
 pub(crate) fn put_byte(byte: u8, buffer: &mut [u8], to: usize) -> usize
     requires { to < length buffer.old }
     ensures { Put buffer.old buffer.new to result (byte ∷ []) }
@@ -53,24 +48,20 @@ pub(crate) fn put_bytes(bytes: &[u8], buffer: &mut [u8], to: usize) -> usize
     requires { to + length bytes.now ≤ length buffer.old }
     ensures { Put buffer.old buffer.new to result bytes.now }
 {
-    let n = bytes.len();
-    let mut i: usize = 0;
-    while i < n {
-        buffer[to + i] = bytes[i];
-        i += 1;
-    }
-    to + n
+    let end = to + bytes.len();
+    buffer[to..end].copy_from_slice(bytes);
+    end
 }
 
-// The letters of the first n values.
-pub(crate) fn put_letters(n: usize, values: &[u8], buffer: &mut [u8], to: usize) -> usize
-    requires { (n ≤ length values.now) × (to + n ≤ length buffer.old) × ((i : ℕ) → i < n → at values.now i ≤ top) }
-    ensures { Put buffer.old buffer.new to result (tab (λ (i : ℕ). letter_of (at values.now i)) n) }
+// A letter for each value.
+// kept: one index for both places: a zip with iter_mut leaves the loop's invariant open.
+pub(crate) fn put_letters(values: &[u8], buffer: &mut [u8], to: usize) -> usize
+    requires { (to + length values.now ≤ length buffer.old) × ((i : ℕ) → i < length values.now → at values.now i ≤ top) }
+    ensures { Put buffer.old buffer.new to result (map letter_of values.now) }
 {
-    let mut i: usize = 0;
-    while i < n {
-        buffer[to + i] = letter(values[i]);
-        i += 1;
+    let n = values.len();
+    for i in 0..n {
+        buffer[to + i] = letter(Verdict(values[i]));
     }
     to + n
 }
@@ -83,6 +74,7 @@ fn put_digit(digit: u16, buffer: &mut [u8], to: usize) -> usize
 }
 
 // The digits of a number that has at most three.
+// kept: by hundreds and not digit by digit, as formula has it: an edit counts the hundreds wrong, and would have no place.
 fn put_short(number: u16, buffer: &mut [u8], to: usize) -> usize
     requires { (number < 1000) × (to + length (decimal number) ≤ length buffer.old) }
     ensures { Put buffer.old buffer.new to result (decimal number) }
@@ -100,6 +92,7 @@ fn put_short(number: u16, buffer: &mut [u8], to: usize) -> usize
 }
 
 // The digits of a number: the hundreds, and two more.
+// kept: Display writes to a fmt::Write, which a lent slice is none; a type over one, and a proof that std's digits are those of Signs, is no plainer.
 pub(crate) fn put_decimal(number: u16, buffer: &mut [u8], to: usize) -> usize
     requires { to + length (decimal number) ≤ length buffer.old }
     ensures { Put buffer.old buffer.new to result (decimal number) }
@@ -117,12 +110,9 @@ pub(crate) fn entries_size(path: &[u16]) -> usize
     requires { length path.now ≤ most_states }
     ensures { result ≡ length (numbers_print path.now) }
 {
-    let n = path.len();
     let mut size: usize = 0;
-    let mut i: usize = 0;
-    while i < n {
-        size = size + decimal_size(path[i]) + 1;
-        i += 1;
+    for &state in path {
+        size = size + decimal_size(state) + 1;
     }
     size
 }
@@ -134,11 +124,9 @@ pub(crate) fn put_entries(path: &[u16], buffer: &mut [u8], to: usize) -> usize
 {
     let n = path.len();
     let mut at = to;
-    let mut i: usize = 0;
-    while i < n {
+    for i in 0..n {
         let behind = put_decimal(path[i], buffer, at);
         at = put_byte(values::signs::stop_before(n - (i + 1)), buffer, behind);
-        i += 1;
     }
     at
 }

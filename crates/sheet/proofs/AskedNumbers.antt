@@ -10,7 +10,6 @@ use lib.ListN.{length}
 use lib.Dec.{eqb, ltb}
 use borrow.Author.Tests.{le-ltb}
 use Rattle.lists.specs.Entries.{any_below}
-use Rattle.lists.proofs.Entries.{all_member}
 use Rattle.lists.proofs.Search.{any_same, any_never}
 use Rattle.values.specs.Limits.{greatest_kind, most_nodes, most_node_numbers}
 use Rattle.values.specs.Rows.{most_verdicts, row_begin}
@@ -21,6 +20,9 @@ use Rattle.model.proofs.Labels.{fine_tests}
 use Rattle.model.proofs.Fine.{judge_fine}
 use Rattle.model.proofs.Lowest.{judge_among, refused_unnamed}
 use Rattle.model.proofs.Named.{named_nowhere, named_there}
+use Rattle.values.specs.Refusal.{number_of}
+use Rattle.values.specs.declared.refusal.Refusal.{Refusal}
+use Rattle.values.specs.declared.refusal.Refusal.TheVariants.{NodeList, FormulaForm, TableSpace}
 use Rattle.formula.specs.Tree.{Formula, size, AtomsBelow, Names}
 use Rattle.formula.specs.Text.{text_of}
 use Rattle.formula.specs.Nodes.{nodes_of}
@@ -29,14 +31,14 @@ use Rattle.formula.proofs.Sizes.{nodes_length}
 use Rattle.formula.proofs.EachPart.{kind_fits, operands_fit}
 use Rattle.formula.proofs.NamedAtoms.{named_node, node_named}
 use Rattle.form.specs.Print.{Printable}
-use Rattle.text.specs.Answers.{Outcome, refusals, text_outcome}
+use Rattle.text.specs.Answers.{Outcome, text_outcome}
 use Rattle.text.specs.Answers.Outcome.{model, refusal}
 use Rattle.text.proofs.Promised.{outcome_printable}
 use Rattle.sheet.specs.declared.Sheet.{Sheet}
 use Rattle.sheet.specs.Answers.{Judges, asked_of, Asks, FormulaJudged, with_nodes}
 use Rattle.sheet.proofs.Asking.{asked_formula}
 use Rattle.sheet.proofs.Meaning.{model_number}
-use Rattle.sheet.proofs.Numbers.{labels_fit, outcome_numbers}
+use Rattle.sheet.proofs.Numbers.{labels_fit, text_numbers}
 
 -- neither 3 nor 4 nor 11 nor 13
 spared : ℕ → Bool
@@ -93,22 +95,22 @@ accepted text room f o e (formula.Reads.reads h g s k c) =
     let l = ap length s.spelt in
     subst formula.Accepted q (record { named = s.named; short = omega (arith, l, s.short); few = k })
 
-numbered : (text : List ℕ) (room n : ℕ) (o : formula.Outcome) → o ≡ formula.Outcome.refusal n → formula.Reads text room o → spared n ≡ true
+numbered : (text : List ℕ) (room : ℕ) (x : Refusal) (o : formula.Outcome) → o ≡ formula.Outcome.refusal x → formula.Reads text room o → spared (number_of x) ≡ true
 unfolding spared
-numbered text room n o e (formula.Reads.tight h c) = let q : n ≡ 24 = cc in ap spared q
-numbered text room n o e (formula.Reads.unspelt h k c) = let q : n ≡ 20 = cc in ap spared q
-numbered text room n o e (formula.Reads.many h g s k c) = let q : n ≡ 10 = cc in ap spared q
-numbered text room n o e (formula.Reads.reads h g s k c) = absurd (let z : ◌≡◌ {A = ℕ} 0 1 = cc in omega arith)
+numbered text room x o e (formula.Reads.tight h c) = let q : x ≡ TableSpace = cc in ap (λ (y : Refusal). spared (number_of y)) q
+numbered text room x o e (formula.Reads.unspelt h k c) = let q : x ≡ FormulaForm = cc in ap (λ (y : Refusal). spared (number_of y)) q
+numbered text room x o e (formula.Reads.many h g s k c) = let q : x ≡ NodeList = cc in ap (λ (y : Refusal). spared (number_of y)) q
+numbered text room x o e (formula.Reads.reads h g s k c) = absurd (let z : ◌≡◌ {A = ℕ} 0 1 = cc in omega arith)
 
 by_read : (m : Model) (text : List ℕ) (o : formula.Outcome) → Printable m → formula.Reads text most_node_numbers o → (before after : List ℕ) (r : Sheet) → most_verdicts ≤ length before
     → Judges (asked_of m o) before after r → spared r.number ≡ true
 by_read m text (formula.Outcome.formula f) g c before after r h p = ap spared (model_number (with_nodes m (nodes_of f)) before after r p) ∙ judged_spared m f (length before) g (accepted text most_node_numbers f (formula.Outcome.formula f) refl c) h
-by_read m text (formula.Outcome.refusal n) g c before after r h p = ap (λ (x : Sheet). spared x.number) p.0 ∙ numbered text most_node_numbers n (formula.Outcome.refusal n) refl c
+by_read m text (formula.Outcome.refusal x) g c before after r h p = ap (λ (y : Sheet). spared y.number) p.0 ∙ numbered text most_node_numbers x (formula.Outcome.refusal x) refl c
 
 by_text : (text formula : List ℕ) (o : Outcome) → text_outcome text ≡ o → (before after : List ℕ) (r : Sheet) → most_verdicts ≤ length before → Asks o formula before after r → spared r.number ≡ true
 unfolding spared
 by_text text formula (model m) e before after r h p = by_read m formula p.read (outcome_printable text m e) p.comes before after r h p.judged
-by_text text formula (refusal n) e before after r h p = ap (λ (x : Sheet). spared x.number) p.0 ∙ all_member (λ (x : ℕ). spared x ≡ true) refusals (refl, (refl, (refl, (refl, (refl, (refl, (refl, tt))))))) n (outcome_numbers text n e)
+by_text text formula (refusal n) e before after r h p = ap (λ (x : Sheet). spared x.number) p.0 ∙ text_numbers (λ (x : ℕ). spared x ≡ true) refl refl refl refl refl refl text n e
 
 pub never_asked : (text formula before after : List ℕ) (r : Sheet) → most_verdicts ≤ length before → FormulaJudged text formula before after r
     → (r.number ≡ 3 → ⊥) × (r.number ≡ 4 → ⊥) × (r.number ≡ 11 → ⊥) × (r.number ≡ 13 → ⊥)

@@ -2,100 +2,55 @@
 -- permits one answer.
 use Prim.Native.Nat.{ℕ, ◌*◌}
 use mathlib.Core.Path.{◌≡◌, refl, ap, sym, subst, ◌∙◌}
-use mathlib.Core.List.{List, [], ◌∷◌}
-use mathlib.Core.Bool.{false}
+use mathlib.Core.List.{List}
 use native.Mathlib.Omega.{arith}
 use lib.ListN.{length, take}
 use Rattle.values.specs.Limits.{most_node_numbers}
-use Rattle.model.specs.Model.{Model, as_model, node_count}
-use Rattle.ctl.specs.Answers.{Judging}
+use Rattle.model.specs.Model.{Model}
 use Rattle.formula.specs.Tree.{Formula}
 use Rattle.formula.specs.Text.{text_of}
 use Rattle.formula.specs.Nodes.{nodes_of}
 use Rattle.formula.specs.Answers as formula
-use Rattle.formula.specs.declared.Read.TheVariants as read
 use Rattle.formula.proofs.Sizes.{nodes_length}
-use Rattle.formula.proofs.ReadOnce.{accepts_texts, reads_as, refused_comes, outcome_once}
-use Rattle.formula.specs.declared.Read as answers
-use Rattle.form.specs.Print.{Printable}
-use Rattle.text.specs.Answers.{Tables, tables, Outcome, any_short, text_outcome, counts_due, tables_due, ModelRead}
-use Rattle.text.specs.declared.Read.{Read}
-use Rattle.text.specs.declared.Read.TheVariants as model-read
-use Rattle.text.proofs.Promised.{read_comes, outcome_printable}
+use Rattle.formula.proofs.ReadOnce.{accepts_texts, reads_as, outcome_once}
+use Rattle.text.specs.Answers.{Outcome, text_outcome}
 use Rattle.text.specs.Answers.Outcome.{model, refusal}
 use Rattle.sheet.specs.declared.Sheet.{Sheet}
-use Rattle.sheet.specs.Inside.{FrontsFit, FrontsJudged, fronts}
-use Rattle.sheet.specs.Answers.{refused_sheet, sheet_of, ModelJudged, Judges, with_nodes, asked_of, Asked, Asks, FormulaJudged}
+use Rattle.std.specs.Prelude.{Ok}
+use Rattle.sheet.specs.declared.judging.Held.{Held}
+use Rattle.sheet.specs.Inside.{model_of}
+use Rattle.sheet.specs.Answers.{ModelJudged, Judges, with_nodes, asked_of, Asked, Asks, FormulaJudged}
 use Rattle.sheet.proofs.Meaning.{refused_keeps}
-use Rattle.sheet.proofs.Fronts.{front, found_there, judges_one, judged_refused, Standing, standing}
+use Rattle.sheet.proofs.Fronts.{found_there, judges_one}
 
--- the formula was refused
-pub asked_refused : (m : Model) (text nodes nodes' before : List ℕ) (answer : answers.Read) (n : ℕ) (r : Sheet) → length nodes ≡ most_node_numbers → formula.FormulaRead text nodes nodes' answer → answer ≡ read.Refused n
-    → r ≡ refused_sheet n → Asked m text before before r
-asked_refused m text nodes nodes' before answer n r l p e s =
-    let c = refused_comes text nodes nodes' n (subst (formula.FormulaRead text nodes nodes') e p) in
-    record { read = formula.Outcome.refusal n; comes = subst (λ (x : ℕ). formula.Reads text x (formula.Outcome.refusal n)) l c.0; judged = (s, refl) }
+-- what is held with the nodes of a formula in the table of nodes
+abbrev pub with_formula : Held → List ℕ → ℕ → Held
+with_formula h nodes n =
+    record {
+      counts = record { states = h.counts.states; atoms = h.counts.atoms; transitions = h.counts.transitions; nodes = n };
+      labels = h.labels;
+      initial = h.initial;
+      transitions = h.transitions;
+      nodes = nodes;
+    }
 
-module _ (S A E : ℕ) (L I T : List ℕ) (text nodes nodes' : List ℕ) (n : ℕ) (p : formula.FormulaRead text nodes nodes' (read.Nodes n)) where
-  as_read : formula.ReadAs text nodes nodes' n
-  as_read = accepts_texts text nodes nodes' n p
+module _ (h : Held) (text nodes' : List ℕ) (n : ℕ) (p : formula.FormulaRead text h.nodes nodes' (Ok n)) where
+  as_read : formula.ReadAs text h.nodes nodes' n
+  as_read = accepts_texts text h.nodes nodes' n p
 
   many : length (nodes_of as_read.tree) ≡ 3 * n
   many = nodes_length 0 as_read.tree ∙ ap (λ (x : ℕ). 3 * x) (sym as_read.count)
 
-  pub asked_fit : FrontsFit S A E 0 (tables L I T []) → FrontsFit S A E n (tables L I T nodes')
-  asked_fit f = record { labels = f.labels; initial = f.initial; transitions = f.transitions; nodes = front (nodes_of as_read.tree) nodes nodes' (3 * n) many as_read.filled }
-
   -- what was judged is the model with the formula's nodes
-  pub asked_nodes : (before after : List ℕ) (r : Sheet) → FrontsJudged S A E n (tables L I T nodes') before after r → Asked (fronts S A E 0 (tables L I T [])) text before after r
+  pub asked_nodes : (before after : List ℕ) (r : Sheet) → ModelJudged (model_of (with_formula h nodes' n)) before after r → Asked (model_of h) text before after r
   asked_nodes before after r j =
       let f = as_read.tree in
-      let there : take (3 * n) nodes' ≡ nodes_of f = found_there (nodes_of f) nodes nodes' (3 * n) many as_read.filled in
-      let whole : List ℕ → Model = λ (ns : List ℕ). as_model S A (take (S * A) L) (take S I) (take (2 * E) T) ns in
-      let count : n ≡ node_count (nodes_of f) = omega (arith, many) in
+      let there : take (3 * n) nodes' ≡ nodes_of f = found_there (nodes_of f) h.nodes nodes' (3 * n) many as_read.filled in
       record {
         read = formula.Outcome.formula f;
-        comes = reads_as text nodes nodes' n most_node_numbers (omega arith) as_read;
-        judged = record {
-          answer = j.answer;
-          judging = subst (λ (ns : List ℕ). Judging (whole ns) before after j.answer) there j.judging;
-          sheet = j.sheet ∙ ap (λ (k : ℕ). sheet_of S k j.answer) count;
-        };
+        comes = reads_as text h.nodes nodes' n most_node_numbers (omega arith) as_read;
+        judged = subst (λ (ns : List ℕ). ModelJudged (with_nodes (model_of h) ns) before after r) there j;
       }
-
--- by what the model's text comes to: its refusal is handed on
-asks_none : (o : Outcome) (formula before after : List ℕ) (r : Sheet) → [] ≡ counts_due o → Judges o before after r → Asks o formula before after r
-asks_none (refusal n) formula before after r c j = j
-asks_none (model m) formula before after r c j = absurd (let z : ◌≡◌ {A = ℕ} 0 1 = cc in omega arith)
-
--- and a formula asked of what stands in the fronts is asked of the model
-same_asked : (m : Model) (S A E N : ℕ) (L I T ns : List ℕ) → Standing m S A E N (tables L I T ns) → (o : formula.Outcome) → asked_of (fronts S A E 0 (tables L I T [])) o ≡ asked_of m o
-same_asked m S A E N L I T ns t (formula.Outcome.formula f) = λ i. model (as_model (t.states i) (t.atoms i) (t.labels i) (t.initial i) (t.transitions i) (nodes_of f))
-same_asked m S A E N L I T ns t (formula.Outcome.refusal n) = refl
-
-asks_model : (o : Outcome) (lent : Tables) (L I T ns : List ℕ) (S A E N : ℕ) (text before after : List ℕ) (r : Sheet) → ((m : Model) → o ≡ model m → Printable m)
-    → S ∷ A ∷ E ∷ N ∷ [] ≡ counts_due o → tables L I T ns ≡ tables_due o lent → Asked (fronts S A E 0 (tables L I T [])) text before after r → Asks o text before after r
-asks_model (refusal n) lent L I T ns S A E N text before after r good c l q = absurd (let z : ◌≡◌ {A = ℕ} 0 1 = cc in omega arith)
-asks_model (model m) lent L I T ns S A E N text before after r good c l q =
-    let t = standing m lent (tables L I T ns) S A E N (good m refl) c l in
-    record { read = q.read; comes = q.comes; judged = subst (λ (x : Outcome). Judges x before after r) (same_asked m S A E N L I T ns t q.read) q.judged }
-
--- the promise at both of its ways out
-pub formula_refused : {text : List ℕ} {lent lent' : Tables} (formula before : List ℕ) {answer : Read} {n : ℕ} {r : Sheet}
-    → any_short lent ≡ false → ModelRead text lent lent' answer → answer ≡ model-read.Refused n → r ≡ refused_sheet n → FormulaJudged text formula before before r
-formula_refused {text} {lent} {lent'} formula before {answer} {n} {r} long p e s =
-    let c = read_comes text lent lent' (model-read.Refused n) long (rw e at p) in
-    asks_none (text_outcome text) formula before before r c.1 (judged_refused before long p e s)
-
-pub formula_asked : (text : List ℕ) (lent : Tables) (L I T ns : List ℕ) (formula before after : List ℕ) (answer : Read) (S A E N : ℕ) (r : Sheet)
-    → any_short lent ≡ false → ModelRead text lent (tables L I T ns) answer → answer ≡ model-read.Model S A E N → Asked (fronts S A E 0 (tables L I T [])) formula before after r
-    → FormulaJudged text formula before after r
-formula_asked text lent L I T ns formula before after answer S A E N r long p e q =
-    let c = read_comes text lent (tables L I T ns) (model-read.Model S A E N) long (rw e at p) in
-    asks_model (text_outcome text) lent L I T ns S A E N formula before after r (outcome_printable text) c.1 c.2 q
-
-pub fronts_only : (S A E N : ℕ) (L I T ns : List ℕ) → FrontsFit S A E N (tables L I T ns) → FrontsFit S A E 0 (tables L I T [])
-fronts_only S A E N L I T ns f = record { labels = f.labels; initial = f.initial; transitions = f.transitions; nodes = omega arith }
 
 -- any two permitted answers coincide, the verdict space too
 asks_one : (o : Outcome) (text before after after' : List ℕ) (r r' : Sheet) → Asks o text before after r → Asks o text before after' r' → (r ≡ r') × (after ≡ after')

@@ -14,15 +14,15 @@ use Rattle.values.specs.Values.{top}
 use Rattle.values.specs.Limits.{most_states, most_nodes}
 use Rattle.values.specs.Rows.{bad_row, row_in, row_values}
 use Rattle.values.specs.Answers.{verdict}
+use Rattle.values.specs.Refusal.{answer_number}
 use Rattle.kripke.proofs.Refusals.{accepted}
 use Rattle.model.specs.Model.{Model, node_count}
 use Rattle.model.proofs.Fine.{judge_fine}
 use Rattle.ctl.specs.Rows.{rows_of, model_verdict}
-use Rattle.ctl.specs.Answers.{judged_as, number_due, number_of}
-use Rattle.ctl.specs.declared.Judged.{Judged}
-use Rattle.ctl.specs.declared.Judged.TheVariants as judged
+use Rattle.ctl.specs.Answers.{Judged, number_due}
+use Rattle.std.specs.Prelude.{Ok, Err}
 use Rattle.ctl.proofs.Held.{as_many, row_held}
-use Rattle.ctl.proofs.OneAnswer.{judging_keeps, judging_number, judging_rows}
+use Rattle.ctl.proofs.OneAnswer.{judging_keeps, judging_number, judging_rows, judged_verdict}
 use Rattle.ctl.proofs.Related.{small, verdict_related}
 use Rattle.text.specs.Answers.{Outcome, text_outcome}
 use Rattle.text.specs.Answers.Outcome.{model, refusal}
@@ -58,10 +58,9 @@ rows_shown S space j (suc n) (row ∷ rows) e each =
     let rest = rows_shown S space (suc j) n rows (omega arith) (λ i h. let s : suc j + i ≡ j + suc i = omega arith in ap (row_at S space) s ∙ each (suc i) (omega arith)) in
     cc
 
-pub number_of_lem : (S N : ℕ) (a : Judged) → number_of a ≡ (sheet_of S N a).number
-unfolding number_of
-number_of_lem S N (judged.Verdicts v) = refl
-number_of_lem S N (judged.Refused n) = refl
+pub number_of_lem : (S N : ℕ) (a : Judged) → answer_number a ≡ (sheet_of S N a).number
+number_of_lem S N (Ok v) = refl
+number_of_lem S N (Err n) = refl
 
 -- the sheet's number is the one that judging is due
 pub model_number : (m : Model) (before after : List ℕ) (r : Sheet) → ModelJudged m before after r → r.number ≡ number_due m before
@@ -71,9 +70,8 @@ module _ (m : Model) (before after : List ℕ) (r : Sheet) (p : ModelJudged m be
   none_refused : number_due m before ≡ 0
   none_refused = sym (model_number m before after r p) ∙ z
 
-  pub sheet_shown : r ≡ sheet_of m.states (node_count m.nodes) (judged.Verdicts (verdict (model_verdict m)))
-  unfolding judged_as
-  sheet_shown = p.sheet ∙ ap (sheet_of m.states (node_count m.nodes)) (p.judging.answer ∙ ap (λ (n : ℕ). judged_as n (model_verdict m)) none_refused)
+  pub sheet_shown : r ≡ sheet_of m.states (node_count m.nodes) (Ok (verdict (model_verdict m)))
+  sheet_shown = p.sheet ∙ ap (sheet_of m.states (node_count m.nodes)) (judged_verdict m before after p.answer p.judging none_refused)
 
   pub output_shown : output r after ≡ whole (rows_of m) (model_verdict m)
   unfolding output whole

@@ -10,11 +10,10 @@ use lib.Dec.{leb}
 use borrow.Author.Tests.{eq-eqb, ne_eqb, leb-true}
 use Rattle.answer.specs.Answers.{Due, number_due, model_due, LineWritten}
 use Rattle.answer.specs.Answers.Due.{line, none}
-use Rattle.answer.specs.declared.Written.{Written}
-use Rattle.answer.specs.declared.Written.TheVariants as written
+use Rattle.std.specs.Prelude.{Option, Some, None, Result, Ok, Err, MatchResult, IsOkAnd}
+use Rattle.answer.specs.declared.Unwritten.{Unwritten}
+use Rattle.answer.specs.declared.Unwritten.TheVariants.{NoRoom}
 use Rattle.sheet.specs.declared.Sheet.{Sheet}
-use Rattle.sheet.specs.declared.Line.{Line}
-use Rattle.sheet.specs.declared.Line.TheVariants as said
 use Rattle.sheet.specs.Output.{row_at, rows_from, output, Place, line_at}
 use Rattle.sheet.specs.Answers.{line_of, LinePut}
 use Rattle.sheet.specs.Output.Place.{here, past}
@@ -66,22 +65,27 @@ module _ (sheet : Sheet) (space : List ℕ) where
   at_end i z h = rw (eq-eqb sheet.number 0 z) (no_line sheet.states space 0 sheet.nodes i _ h)
 
 -- a writer's answer as that of the line, and the end
-pub line_here : {place : Place} {d : Due} {before after : List ℕ} {r : Written} {l : Line} → place ≡ here d → l ≡ line_of r → LineWritten d before after r → LinePut place before after l
+pub mapped : (r : Result ℕ Unwritten) (l : Result (Option ℕ) Unwritten) → MatchResult r (λ (n : ℕ). IsOkAnd l (λ (o : Option ℕ). o ≡ Some n)) (λ (e : Unwritten). l ≡ Err e) → l ≡ line_of r
+mapped (Ok n) (Ok o) p = ap Ok p
+mapped (Ok n) (Err e) p = elim p [ ]
+mapped (Err e) l p = p
+
+pub line_here : {place : Place} {d : Due} {before after : List ℕ} {r : Result ℕ Unwritten} {l : Result (Option ℕ) Unwritten} → place ≡ here d → l ≡ line_of r → LineWritten d before after r → LinePut place before after l
 line_here e l p = rw e (record { answers = l ∙ ap line_of p.answers; buffer = p.buffer })
 
-pub line_past : {place : Place} (before : List ℕ) → place ≡ past → LinePut place before before said.End
+pub line_past : {place : Place} (before : List ℕ) → place ≡ past → LinePut place before before (Ok None)
 line_past before e = rw e (record { answers = refl; buffer = refl })
 
 -- any two permitted answers coincide, the buffer too
-pub line_put_one : (place : Place) (before after after' : List ℕ) (r r' : Line) → LinePut place before after r → LinePut place before after' r' → (r ≡ r') × (after ≡ after')
+pub line_put_one : (place : Place) (before after after' : List ℕ) (r r' : Result (Option ℕ) Unwritten) → LinePut place before after r → LinePut place before after' r' → (r ≡ r') × (after ≡ after')
 line_put_one place before after after' r r' p q = (p.answers ∙ sym q.answers, p.buffer ∙ sym q.buffer)
 
 -- the bytes of a line lie within the buffer
-bytes_within : (room size n : ℕ) (b : Bool) → leb size room ≡ b → line_of (cond b (written.Bytes size) written.NoRoom) ≡ said.Bytes n → n ≤ room
+bytes_within : (room size n : ℕ) (b : Bool) → leb size room ≡ b → line_of (cond b (Ok size) (Err NoRoom)) ≡ Ok (Some n) → n ≤ room
 bytes_within room size n true t e = let same : size ≡ n = cc in omega (arith, leb-true size room t)
 bytes_within room size n false t e = absurd (let z : ◌≡◌ {A = ℕ} 0 1 = cc in omega arith)
 
-pub line_within : (place : Place) (before after : List ℕ) (l : Line) (n : ℕ) → LinePut place before after l → l ≡ said.Bytes n → n ≤ length before
+pub line_within : (place : Place) (before after : List ℕ) (l : Result (Option ℕ) Unwritten) (n : ℕ) → LinePut place before after l → l ≡ Ok (Some n) → n ≤ length before
 line_within (here (line bytes)) before after l n p e = bytes_within (length before) (length bytes) n (leb (length bytes) (length before)) refl (sym p.answers ∙ e)
 line_within (here none) before after l n p e = absurd (let q = p.answers in let z : ◌≡◌ {A = ℕ} 0 1 = cc in omega arith)
 line_within past before after l n p e = absurd (let q = p.answers in let z : ◌≡◌ {A = ℕ} 0 1 = cc in omega arith)

@@ -15,7 +15,8 @@ use Rattle.lists.proofs.Tests.{and_fails, or_left}
 use Rattle.answer.specs.Lines.{row_line}
 use Rattle.answer.specs.Answers.{Due, line_if, row_due, LineWritten}
 use Rattle.answer.specs.Answers.Due.{none}
-use Rattle.answer.specs.declared.Written.TheVariants as written
+use Rattle.std.specs.Prelude.{Err}
+use Rattle.answer.specs.declared.Unwritten.TheVariants.{NoLine}
 use Rattle.sheet.specs.Output.{row_at}
 
 -- where row k begins and ends is within the largest verdict space
@@ -62,5 +63,5 @@ row_short S space k size h e short =
     never false b e = refl
     never true b e = ap not e
 
-pub none_written : {due : Due} (before : List ℕ) → due ≡ none → LineWritten due before before written.NoLine
+pub none_written : {due : Due} (before : List ℕ) → due ≡ none → LineWritten due before before (Err NoLine)
 none_written before e = rw e (record { answers = refl; buffer = refl })

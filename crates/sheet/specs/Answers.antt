@@ -1,21 +1,18 @@
 -- What the calls promise, for every input: `judge_text` and `judge_formula` the sheet and the verdict space, `write_line` its answer and the buffer.
-use Rattle.std.specs.Prelude.{ℕ, ◌≡◌, List, length}
+use Rattle.std.specs.Prelude.{ℕ, ◌≡◌, List, Option, Some, None, Result, Ok, Err, length}
 use Rattle.values.specs.Answers.{verdict}
 use Rattle.values.specs.Limits.{most_node_numbers}
 use Rattle.model.specs.Model.{Model, as_model, node_count}
+use Rattle.values.specs.Refusal as refusal
 use Rattle.ctl.specs.Answers.{Judging}
-use Rattle.ctl.specs.declared.Judged.{Judged}
-use Rattle.ctl.specs.declared.Judged.TheVariants as judged
+use Rattle.ctl.specs.Answers.{Judged}
 use Rattle.text.specs.Answers.{Outcome, text_outcome}
 use Rattle.text.specs.Answers.Outcome.{model, refusal}
 use Rattle.formula.specs.Nodes.{nodes_of}
 use Rattle.formula.specs.Answers as formula
 use Rattle.answer.specs.Answers.{answer_due, buffer_due}
-use Rattle.answer.specs.declared.Written.{Written}
-use Rattle.answer.specs.declared.Written.TheVariants as written
+use Rattle.answer.specs.declared.Unwritten.{Unwritten}
 use Rattle.sheet.specs.declared.Sheet.{Sheet}
-use Rattle.sheet.specs.declared.Line.{Line}
-use Rattle.sheet.specs.declared.Line.TheVariants as said
 use Rattle.sheet.specs.Output.{Place}
 use Rattle.sheet.specs.Output.Place.{here, past}
 
@@ -25,8 +22,8 @@ refused_sheet n = record { number = n; states = 0; nodes = 0; model = verdict 0 
 
 -- what judging S states and N nodes answered: 0 and the model's verdict, or the number of the refusal
 abbrev pub sheet_of : ℕ → ℕ → Judged → Sheet
-sheet_of S N (judged.Verdicts v) = record { number = 0; states = S; nodes = N; model = v }
-sheet_of S N (judged.Refused n) = refused_sheet n
+sheet_of S N (Ok v) = record { number = 0; states = S; nodes = N; model = v }
+sheet_of S N (Err e) = refused_sheet (refusal.number_of e)
 
 -- a model was judged into the verdict space
 pub record ModelJudged (m : Model) (before after : List ℕ) (r : Sheet) : Type 0 where
@@ -50,7 +47,7 @@ with_nodes m ns = as_model m.states m.atoms m.labels m.initial m.transitions ns
 -- what there is to judge where a formula is asked of a model: the model with the formula's nodes, or the formula's refusal
 abbrev pub asked_of : Model → formula.Outcome → Outcome
 asked_of m (formula.Outcome.formula f) = model (with_nodes m (nodes_of f))
-asked_of m (formula.Outcome.refusal n) = refusal n
+asked_of m (formula.Outcome.refusal e) = refusal (refusal.number_of e)
 
 -- a formula's text was read, and judged on a model
 pub record Asked (m : Model) (text before after : List ℕ) (r : Sheet) : Type 0 where
@@ -67,16 +64,15 @@ Asks (refusal n) formula before after r = (r ≡ refused_sheet n) × (after ≡ 
 abbrev pub FormulaJudged : List ℕ → List ℕ → List ℕ → List ℕ → Sheet → Type 0
 FormulaJudged text formula before after r = Asks (text_outcome text) formula before after r
 
--- what a writer's answer says of a line
-abbrev pub line_of : Written → Line
-line_of (written.Bytes n) = said.Bytes n
-line_of written.NoRoom = said.NoRoom
-line_of written.NoLine = said.NoLine
+-- what a writer's answer says of a line that there is
+abbrev pub line_of : Result ℕ Unwritten → Result (Option ℕ) Unwritten
+line_of (Ok n) = Ok (Some n)
+line_of (Err e) = Err e
 
--- the answer that is due, by the buffer's length
-abbrev pub said_at : Place → ℕ → Line
+-- the answer that is due, by the buffer's length: none behind the last line
+abbrev pub said_at : Place → ℕ → Result (Option ℕ) Unwritten
 said_at (here d) room = line_of (answer_due d room)
-said_at past room = said.End
+said_at past room = Ok None
 
 -- and the buffer afterwards
 abbrev pub buffer_at : Place → List ℕ → List ℕ
@@ -84,6 +80,6 @@ buffer_at (here d) before = buffer_due d before
 buffer_at past before = before
 
 -- `write_line`: the answer and the buffer are what is due
-pub record LinePut (place : Place) (before after : List ℕ) (answer : Line) : Type 0 where
+pub record LinePut (place : Place) (before after : List ℕ) (answer : Result (Option ℕ) Unwritten) : Type 0 where
   pub answers : answer ≡ said_at place (length before)
   pub buffer : after ≡ buffer_at place before

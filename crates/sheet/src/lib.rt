@@ -1,13 +1,12 @@
 // What the programs share: a model's text is judged, by its own nodes or by a formula, and the whole answer is written line by line.
 //
-//   judging   the tables that were read, judged
+//   judging   a model that a text holds, read and judged
 //   lines     one line of the answer
 //
 // specs/Answers says what the calls promise, specs/Output what the whole answer is.
 #![tactic(auto)]
 
-use text::Read;
-use values::limits::{MOST_LABELS, MOST_NODE_NUMBERS, MOST_STATES, MOST_TRANSITION_NUMBERS};
+use answer::Unwritten;
 use values::verdict::Verdict;
 
 mod judging;
@@ -16,10 +15,11 @@ mod lines;
 ghost use Rattle.sheet.specs.Answers.{TextJudged, FormulaJudged, LinePut};
 ghost use Rattle.sheet.specs.Output.{output, line_at};
 
-use judging::{ask_fronts, judge_fronts, refused};
-use lines::{line_of, write_row_at};
+use judging::{Held, refused};
+use lines::write_row_at;
 
 // What came of a text: 0 with the counts and the model's verdict, or the number of the refusal and zeros.
+// kept: write_line is handed a sheet of any number, and answers for each.
 #[derive(Clone, Copy)]
 pub struct Sheet {
     pub number: u8,
@@ -28,52 +28,14 @@ pub struct Sheet {
     pub model: Verdict,
 }
 
-// What writing a line of the answer says. Only `Bytes` changes the buffer.
-#[derive(Clone, Copy)]
-pub enum Line {
-    // So many bytes stand at the front of the buffer; the rest of it stays.
-    Bytes(usize),
-    // The buffer is too short for the line.
-    NoRoom,
-    // The verdict space holds no such row, or the sheet no verdict.
-    NoLine,
-    // The last line came before.
-    End,
-}
-
 // Judges the model that a text holds into the verdict space. A refusal, of reading or of judging, leaves it as it was.
 pub fn judge_text(text: &[u8], verdicts: &mut [u8]) -> Sheet
     ensures { TextJudged text.now verdicts.old verdicts.new result }
 {
-    let mut labels = [0u8; MOST_LABELS];
-    let mut initial = [0u8; MOST_STATES];
-    let mut transitions = [0u16; MOST_TRANSITION_NUMBERS];
-    let mut nodes = [0u16; MOST_NODE_NUMBERS];
-    let answer = text::read_model(
-        text,
-        &mut labels,
-        &mut initial,
-        &mut transitions,
-        &mut nodes,
-    );
-    match answer {
-        Read::Refused(number) => refused(number),
-        Read::Model {
-            states: s,
-            atoms: a,
-            transitions: e,
-            nodes: n,
-        } => judge_fronts(
-            s,
-            a,
-            e,
-            n,
-            &labels,
-            &initial,
-            &transitions,
-            &nodes,
-            verdicts,
-        ),
+    let mut held = Held::empty();
+    match held.read(text) {
+        Ok(()) => held.judge(verdicts),
+        Err(refusal) => refused(refusal),
     }
 }
 
@@ -81,44 +43,35 @@ pub fn judge_text(text: &[u8], verdicts: &mut [u8]) -> Sheet
 pub fn judge_formula(text: &[u8], formula: &[u8], verdicts: &mut [u8]) -> Sheet
     ensures { FormulaJudged text.now formula.now verdicts.old verdicts.new result }
 {
-    let mut labels = [0u8; MOST_LABELS];
-    let mut initial = [0u8; MOST_STATES];
-    let mut transitions = [0u16; MOST_TRANSITION_NUMBERS];
-    let mut nodes = [0u16; MOST_NODE_NUMBERS];
-    let answer = text::read_model(
-        text,
-        &mut labels,
-        &mut initial,
-        &mut transitions,
-        &mut nodes,
-    );
-    match answer {
-        Read::Refused(number) => refused(number),
-        Read::Model {
-            states: s,
-            atoms: a,
-            transitions: e,
-            nodes: _,
-        } => ask_fronts(s, a, e, &labels, &initial, &transitions, formula, verdicts),
+    let mut held = Held::empty();
+    match held.read(text) {
+        Ok(()) => held.judge_formula(formula, verdicts),
+        Err(refusal) => refused(refusal),
     }
 }
 
-// Line k of the whole answer, at the front of the buffer.
-pub fn write_line(sheet: Sheet, verdicts: &[u8], k: usize, buffer: &mut [u8]) -> Line
+// Line k of the whole answer, at the front of the buffer: how many bytes it has, the rest of the buffer stays; or none where the last line came
+// before. There is no line of a row that the verdict space doesn't hold, and none of what is no verdict: the buffer stays.
+pub fn write_line(
+    sheet: Sheet,
+    verdicts: &[u8],
+    k: usize,
+    buffer: &mut [u8],
+) -> Result<Option<usize>, Unwritten>
     ensures { LinePut (line_at (output sheet verdicts.now) k) buffer.old buffer.new result }
 {
     if k == 0 {
-        return line_of(answer::write_number(sheet.number, buffer));
+        return answer::write_number(sheet.number, buffer).map(Some);
     }
     if sheet.number != 0 {
-        return Line::End;
+        return Ok(None);
     }
     let row = k - 1;
     if row < sheet.nodes {
-        return line_of(write_row_at(sheet.states, verdicts, row, buffer));
+        return write_row_at(sheet.states, verdicts, row, buffer).map(Some);
     }
     if row == sheet.nodes {
-        return line_of(answer::write_model(sheet.model, buffer));
+        return answer::write_model(sheet.model, buffer).map(Some);
     }
-    Line::End
+    Ok(None)
 }

@@ -5,7 +5,6 @@ use Rattle.lists.proofs.Placed.{put_then}
 use Rattle.values.proofs.Decimals.{decimal_short}
 use Rattle.answer.proofs.Promises.{line_put, line_short}
 use Rattle.answer.proofs.Sizes.{answer_size}
-use borrow.Author.Rules.{rules}
 use Rattle.answer.proofs.write_number.Goals as goal
 
 pub overflow_add-size : goal.overflow_add-size

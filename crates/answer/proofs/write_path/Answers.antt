@@ -3,16 +3,9 @@ use native.Mathlib.Omega.{arith}
 use Rattle.answer.specs.Lines.{path_line}
 use Rattle.lists.proofs.Placed.{put_then}
 use Rattle.answer.proofs.Entries.{entries_few}
-use Rattle.answer.proofs.Promises.{line_put, line_short, line_none, line_some}
-use Rattle.answer.proofs.Sizes.{path_size, path_empty, path_long, path_right}
-use borrow.Author.Rules.{rules}
+use Rattle.answer.proofs.Promises.{line_put, line_short, line_some}
+use Rattle.answer.proofs.Sizes.{path_size, path_right}
 use Rattle.answer.proofs.write_path.Goals as goal
-
-pub returns-then-n-eq0 : goal.returns-then-n-eq0
-returns-then-n-eq0 c = line_none _ _ _ (path_empty c.args.path.now c.if-n-eq0.true)
-
-pub returns-then-n-gt-MOST_STATES : goal.returns-then-n-gt-MOST_STATES
-returns-then-n-gt-MOST_STATES c = line_none _ _ _ (path_long c.args.path.now c.if-n-gt-MOST_STATES.true)
 
 pub overflow_add-size : goal.overflow_add-size
 overflow_add-size c = omega (arith, c.entries_size-size.ensures, entries_few c.args.path.now)

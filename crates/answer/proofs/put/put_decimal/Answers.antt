@@ -2,7 +2,6 @@
 use native.Mathlib.Omega.{arith}
 use Rattle.lists.proofs.Placed.{put_then}
 use Rattle.answer.proofs.Digits.{decimal_more, size_more}
-use borrow.Author.Rules.{rules}
 use Rattle.answer.proofs.put.put_decimal.Goals as goal
 
 pub put_short-a-requires : goal.put_short-a-requires

@@ -5,7 +5,6 @@ use lib.ListN.{length}
 use Rattle.lists.proofs.Placed.{put_then}
 use Rattle.values.proofs.Decimals.{decimal_one}
 use Rattle.answer.proofs.Digits.{decimal_two, decimal_three}
-use borrow.Author.Rules.{rules}
 use Rattle.answer.proofs.put.put_short.Goals as goal
 
 pub put_digit-requires : goal.put_digit-requires

@@ -1,7 +1,6 @@
 -- `write_row_at` meets its contract: a row that the space has is written, and any other has no line.
 use native.Mathlib.Omega.{arith}
 use Rattle.sheet.proofs.RowLines.{row_within, row_past, row_many, row_here, row_short, none_written}
-use borrow.Author.Rules.{rules}
 use Rattle.sheet.proofs.lines.write_row_at.Goals as goal
 
 pub returns-then-k-ge-MOST_NODES : goal.returns-then-k-ge-MOST_NODES
