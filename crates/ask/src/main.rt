@@ -8,12 +8,14 @@ mod telling;
 
 use std::env::{Env, FillError};
 use std::io;
+use telling::Judged;
 use values::limits::{MOST_FORMULA, MOST_TEXT, MOST_VERDICTS};
 
 // One word more than is ever asked with, the program's name among them.
 const MOST_WORDS: usize = 4;
 
 // How many words the program was called with, its name among them; from the most on they aren't counted.
+// kept: `witness` counts its words alike, but of the words that there are no contract says anything, so a shared function could promise no count.
 fn word_count(rt: &HostRuntime) -> usize {
     for i in 0..MOST_WORDS {
         // No space is lent: what is given is too long for it, or empty.
@@ -26,6 +28,7 @@ fn word_count(rt: &HostRuntime) -> usize {
 
 // One byte more than a text or a formula may have: a longer one is seen to be too long. A word that isn't whole even so comes out empty,
 // and that is no formula either.
+// kept: whether parts are wanted as a bool: one call has a step more, and a closure for it would be empty in the other.
 fn answer(rt: &HostRuntime, parts: bool) -> io::Result<()> {
     let mut formula = [0u8; MOST_FORMULA + 1];
     let length = rt.arg(1, &mut formula).unwrap_or(0);
@@ -33,11 +36,15 @@ fn answer(rt: &HostRuntime, parts: bool) -> io::Result<()> {
     let n = input::fill(&mut rt.stdin(), &mut text)?;
     let mut verdicts = [0u8; MOST_VERDICTS];
     let sheet = sheet::judge_formula(&text[..n], &formula[..length], &mut verdicts);
-    telling::number(rt, sheet, &verdicts)?;
+    let judged = Judged {
+        sheet,
+        verdicts: &verdicts,
+    };
+    judged.number(rt)?;
     if parts {
-        telling::parts(rt, sheet, &verdicts, &formula[..length])?;
+        judged.parts(rt, &formula[..length])?;
     }
-    telling::whole(rt, sheet, &verdicts)
+    judged.whole(rt)
 }
 
 fn main(rt: HostRuntime) -> io::Result<()> {

@@ -2,20 +2,18 @@
 #![tactic(auto)]
 
 use answer::MOST_LINE;
-use sheet::{Line, Sheet};
+use sheet::Sheet;
 use std::io;
 use values::limits::{MOST_NODES, MOST_TEXT, MOST_VERDICTS};
 
 // The lines of the answer, up to its end: the number, a row a node, the model's verdict.
 fn write_answer(rt: &impl Print, sheet: Sheet, verdicts: &[u8]) -> io::Result<()> {
     let mut buffer = [0u8; MOST_LINE];
-    let mut k: usize = 0;
-    while k < MOST_NODES + 2 {
-        let Line::Bytes(n) = sheet::write_line(sheet, verdicts, k, &mut buffer) else {
+    for k in 0..MOST_NODES + 2 {
+        let Ok(Some(n)) = sheet::write_line(sheet, verdicts, k, &mut buffer) else {
             return Ok(());
         };
         rt.write_all(&buffer[..n])?;
-        k += 1;
     }
     Ok(())
 }

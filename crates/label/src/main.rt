@@ -2,12 +2,11 @@
 // its refusal.
 #![tactic(auto)]
 
-ghost use Rattle.std.specs.Prelude.{◌≤◌, length, IfOk};
-
-use answer::{MOST_LINE, Written};
+use answer::{MOST_LINE, Unwritten};
 use labelling::label_line;
-use readings::Labelled;
 use std::io;
+use values::refusal::Refusal;
+use values::verdict::Verdict;
 
 // One byte more than a line may have: a longer one is seen to be too long.
 const KEPT: usize = labelling::MOST_LINE + 1;
@@ -15,9 +14,32 @@ const KEPT: usize = labelling::MOST_LINE + 1;
 // The most bytes that one read asks for.
 const PIECE: usize = 4096;
 
+// What is kept of a line so far.
+// kept: an array and how much of it counts, since memory is fixed, a rule of the project.
+#[derive(Drop)]
+struct Line {
+    bytes: [u8; KEPT],
+    kept: usize,
+}
+
+impl Line {
+    fn text(&self) -> &[u8] {
+        &self.bytes[..self.kept.min(KEPT)]
+    }
+
+    // Puts a byte behind the others while there is room.
+    fn push(&mut self, byte: u8) {
+        if let Some(place) = self.bytes.get_mut(self.kept) {
+            *place = byte;
+            self.kept += 1;
+        }
+    }
+}
+
 // The bytes that a writer put at the front of a line.
-fn put(rt: &impl Print, written: Written, line: &[u8]) -> io::Result<()> {
-    let Written::Bytes(n) = written else {
+// kept: the twin of witness's: of what is printed no contract says anything, so a shared function could promise nothing.
+fn put(rt: &impl Print, written: Result<usize, Unwritten>, line: &[u8]) -> io::Result<()> {
+    let Ok(n) = written else {
         return Ok(());
     };
     if n <= line.len() {
@@ -26,99 +48,72 @@ fn put(rt: &impl Print, written: Written, line: &[u8]) -> io::Result<()> {
     Ok(())
 }
 
-fn refused(rt: &impl Print, number: u8) -> io::Result<()> {
+fn refused(rt: &impl Print, refusal: Refusal) -> io::Result<()> {
     let mut line = [0u8; MOST_LINE];
-    let written = answer::write_number(number, &mut line);
+    let written = answer::write_number(refusal.number(), &mut line);
     put(rt, written, &line)
 }
 
-fn letter(rt: &impl Print, value: u8) -> io::Result<()> {
-    match value {
-        0 => rt.write_all(b"F\n"),
-        1 => rt.write_all(b"U\n"),
+// kept: a Verdict may be none of the three, and a Display would have to print that too; replay and nights print letters so as well.
+fn letter(rt: &impl Print, label: Verdict) -> io::Result<()> {
+    match label {
+        Verdict::FALSE => rt.write_all(b"F\n"),
+        Verdict::UNKNOWN => rt.write_all(b"U\n"),
         _ => rt.write_all(b"T\n"),
     }
 }
 
 fn tell(rt: &impl Print, line: &[u8]) -> io::Result<()> {
     match label_line(line) {
-        Labelled::Is(label) => letter(rt, label.number()),
-        Labelled::Refused(number) => refused(rt, number),
+        Ok(label) => letter(rt, label),
+        Err(refusal) => refused(rt, refusal),
     }
 }
 
-// A line feed ends the line, which is answered then; any other byte goes behind it while there is room.
-fn take_byte(rt: &impl Print, byte: u8, line: &mut [u8], kept: usize) -> io::Result<usize>
-    requires { kept ≤ length line.old }
-    ensures { IfOk result (λ n. n ≤ length line.new) }
-{
+// A line feed ends the line, which is answered then; any other byte goes behind it.
+fn take_byte(rt: &impl Print, byte: u8, line: &mut Line) -> io::Result<()> {
     if byte == b'\n' {
-        tell(rt, &line[..kept])?;
-        return Ok(0);
+        tell(rt, line.text())?;
+        line.kept = 0;
+        return Ok(());
     }
-    if line.len() <= kept {
-        return Ok(kept);
-    }
-    line[kept] = byte;
-    Ok(kept + 1)
+    line.push(byte);
+    Ok(())
 }
 
-// What is kept of a line behind the bytes of a piece.
-fn take_piece(rt: &impl Print, piece: &[u8], line: &mut [u8], before: usize) -> io::Result<usize>
-    requires { before ≤ length line.old }
-    ensures { IfOk result (λ n. n ≤ length line.new) }
-{
-    let mut kept = before;
+fn take_piece(rt: &impl Print, piece: &[u8], line: &mut Line) -> io::Result<()> {
     for byte in piece {
-        kept = take_byte(rt, *byte, line, kept)?;
+        take_byte(rt, *byte, line)?;
     }
-    Ok(kept)
+    Ok(())
 }
 
-// A read of standard input: whether there was one, and what is kept of a line behind it.
-#[derive(Drop)]
-struct Read {
-    more: bool,
-    kept: usize,
-}
-
-fn turn(
-    rt: &impl Print,
-    reader: &mut impl io::Read,
-    line: &mut [u8],
-    kept: usize,
-) -> io::Result<Read>
-    requires { kept ≤ length line.old }
-    ensures { IfOk result (λ t. t.kept ≤ length line.new) }
-{
+// One read of standard input, and whether it gave anything.
+fn turn(rt: &impl Print, reader: &mut impl io::Read, line: &mut Line) -> io::Result<bool> {
     let mut piece = [0u8; PIECE];
     let n = input::read_some(reader, &mut piece)?;
-    if n == 0 {
-        return Ok(Read { more: false, kept });
-    }
-    Ok(Read {
-        more: true,
-        kept: take_piece(rt, &piece[..n], line, kept)?,
-    })
+    take_piece(rt, &piece[..n], line)?;
+    Ok(n != 0)
 }
 
-fn read_lines(rt: &impl Print, reader: &mut impl io::Read, line: &mut [u8]) -> io::Result<usize> {
-    let mut kept: usize = 0;
+fn read_lines(rt: &impl Print, reader: &mut impl io::Read, line: &mut Line) -> io::Result<()> {
     for _ in 0..u64::MAX {
-        let t = turn(rt, reader, line, kept)?;
-        kept = t.kept;
-        if !t.more {
-            return Ok(kept);
+        if !turn(rt, reader, line)? {
+            return Ok(());
         }
     }
-    Ok(kept)
+    Ok(())
 }
 
 // A last line without its line feed may have been cut off, and is in no form.
 fn main(rt: HostRuntime) -> io::Result<()> {
-    let mut line = [0u8; KEPT];
-    if read_lines(&rt, &mut rt.stdin(), &mut line)? != 0 {
-        refused(&rt, 19)?;
+    let mut line = Line {
+        bytes: [0; KEPT],
+        kept: 0,
+    };
+    read_lines(&rt, &mut rt.stdin(), &mut line)?;
+    if line.kept != 0 {
+        refused(&rt, Refusal::TextForm)?;
     }
     Ok(())
 }

@@ -1,16 +1,15 @@
 // Lines of the label desk, labelled and told.
-use crate::lines;
-use crate::lines::LABEL;
-use readings::Labelled;
+use crate::lines::{Call, Case};
 use std::io;
+use values::verdict::Verdict;
 
-pub(crate) fn asked(rt: &impl Print, name: &[u8], line: &[u8]) -> io::Result<()> {
-    lines::case(rt, LABEL, name)?;
+// kept: a Verdict may be none of the three, and a Display would have to print that too.
+pub(crate) fn asked<R: Print>(case: &Case<R>, line: &[u8]) -> io::Result<()> {
+    case.begin(Call::Label)?;
     match labelling::label_line(line) {
-        Labelled::Is(label) => lines::say(rt, b"F\n|U\n|T\n|", label.number() as usize),
-        Labelled::Refused(number) => {
-            lines::answer(rt, number)?;
-            lines::write(rt, b"\n")
-        }
+        Ok(Verdict::FALSE) => println!(case.rt; "F"),
+        Ok(Verdict::UNKNOWN) => println!(case.rt; "U"),
+        Ok(_) => println!(case.rt; "T"),
+        Err(refusal) => println!(case.rt; "answer={}", refusal.number()),
     }
 }

@@ -1,177 +1,135 @@
 // As many states, atoms, transitions and nodes as there may be.
-use crate::lines::JUDGE;
-use crate::{asking, judging, spaces};
-use std::io;
+use crate::asking::Question;
+use crate::judging::Model;
+use crate::lines::{Call, Case};
+use crate::spaces::front;
+use crate::{asking, formulas, judging};
+use model::kinds::Kind;
+use std::{array, io};
 use values::limits::{
-    MOST_ATOMS, MOST_NODE_NUMBERS, MOST_STATES, MOST_TRANSITION_NUMBERS, MOST_VERDICTS,
+    MOST_ATOMS, MOST_FORMULA, MOST_NODE_NUMBERS, MOST_STATES, MOST_TRANSITION_NUMBERS,
+    MOST_VERDICTS,
 };
 
-// The lists of numbers that are made here.
-const TRANSITIONS: usize = 0;
+fn narrow(number: usize) -> u16 {
+    (number % 65536) as u16
+}
 
-const UNTILS: usize = 1;
-
-const CONJUNCTS: usize = 2;
-
-pub(crate) const NOTS: usize = 3;
-
-// Four transitions out of each state: to itself and the three next ones, the last states to the last four.
-fn transition(i: usize) -> usize {
+// Number i of the transitions: four out of each state, to itself and the three next ones, the last states to the last four.
+fn transition(i: usize) -> u16 {
     let s = i / 8;
     let last = MOST_STATES - 4;
     if i % 2 == 0 {
-        return s;
+        return narrow(s);
     }
-    if s < last {
-        s + i / 2 % 4
-    } else {
-        last + i / 2 % 4
+    narrow(s.min(last) + i / 2 % 4)
+}
+
+fn transitions() -> [u16; MOST_TRANSITION_NUMBERS] {
+    array::from_fn(transition)
+}
+
+// Number i of a list of nodes, of which this one has it.
+fn entry(i: usize, kind: Kind, left: usize, right: usize) -> u16 {
+    match i % 3 {
+        0 => kind.number(),
+        1 => narrow(left),
+        _ => narrow(right),
     }
 }
 
-// A number of an atom's node.
-fn atom(node: usize, place: usize) -> usize {
-    match place {
-        0 => 1,
-        1 => node,
-        _ => 0,
-    }
-}
-
-// Two atoms, and then E and A in turn, each over atom 0 and the node before.
-fn until(node: usize, place: usize) -> usize {
+// Number i of the nodes: two atoms, and then E and A in turn, each over atom 0 and the node before.
+fn until(i: usize) -> u16 {
+    let node = i / 3;
     if node < 2 {
-        return atom(node, place);
+        return entry(i, Kind::Atom, node, 0);
     }
-    match place {
-        0 => 5 + node % 2,
-        1 => 0,
-        _ => node - 1,
-    }
+    let kind = if node % 2 == 0 { Kind::Eu } else { Kind::Au };
+    entry(i, kind, 0, node - 1)
 }
 
 // All atoms, and behind them each in conjunction with the node before.
-fn conjunct(node: usize, place: usize) -> usize {
+fn conjunct(i: usize) -> u16 {
+    let node = i / 3;
     if node < MOST_ATOMS {
-        return atom(node, place);
+        return entry(i, Kind::Atom, node, 0);
     }
-    match place {
-        0 => 3,
-        1 => node % MOST_ATOMS,
-        _ => node - 1,
-    }
+    entry(i, Kind::And, node % MOST_ATOMS, node - 1)
 }
 
 // True, and behind it each the not of the node before.
-fn not(node: usize, place: usize) -> usize {
+fn not(i: usize) -> u16 {
+    let node = i / 3;
     if node == 0 {
-        return 0;
+        return entry(i, Kind::True, 0, 0);
     }
-    match place {
-        0 => 2,
-        1 => node - 1,
-        _ => 0,
-    }
+    entry(i, Kind::Not, node - 1, 0)
 }
 
-fn number(what: usize, i: usize) -> usize {
-    match what {
-        TRANSITIONS => transition(i),
-        UNTILS => until(i / 3, i % 3),
-        CONJUNCTS => conjunct(i / 3, i % 3),
-        _ => not(i / 3, i % 3),
-    }
-}
-
-pub(crate) fn fill(list: &mut [u16], what: usize) {
-    let mut i: usize = 0;
-    while i < list.len() {
-        list[i] = (number(what, i) % 65536) as u16;
-        i += 1;
-    }
-}
-
-// Atom 0 is true but unknown at every seventh state; atom 1 is true at the last state alone.
-fn label(s: usize, atom: usize) -> u8 {
-    if atom == 0 {
+// Label i: atom 0 is true but unknown at every seventh state; atom 1 is true at the last state alone.
+fn label(i: usize) -> u8 {
+    let s = i / 2;
+    if i % 2 == 0 {
         return if s % 7 == 6 { 1 } else { 2 };
     }
     if s == MOST_STATES - 1 { 2 } else { 0 }
 }
 
-fn fill_labels(labels: &mut [u8]) {
-    let mut i: usize = 0;
-    while i < labels.len() {
-        labels[i] = label(i / 2, i % 2);
-        i += 1;
-    }
-}
-
 // As many states, transitions and nodes as there may be, all nodes but two untils.
-pub(crate) fn largest(rt: &impl Print, call: usize, name: &[u8]) -> io::Result<()> {
-    let mut transitions = [0u16; MOST_TRANSITION_NUMBERS];
-    let mut labels = [0u8; 2 * MOST_STATES];
-    let mut nodes = [0u16; MOST_NODE_NUMBERS];
-    let initial = [1u8; MOST_STATES];
-    fill(&mut transitions, TRANSITIONS);
-    fill_labels(&mut labels);
-    fill(&mut nodes, UNTILS);
-    judging::asked(
-        rt,
-        call,
-        name,
-        MOST_STATES,
-        2,
-        &labels,
-        &initial,
-        &transitions,
-        &nodes,
-        MOST_VERDICTS,
-    )
-}
-
-// The three path calls in turn.
-fn in_turn(
-    rt: &impl Print,
-    name: &[u8],
-    transitions: &[u16],
-    left: &[u8],
-    right: &[u8],
-) -> io::Result<()> {
-    let states = MOST_STATES;
-    let path = asking::first(rt, name, states, transitions, left, right, 2, 0, states)?;
-    let list = spaces::numbers(&path, (MOST_STATES - 1) / 3 + 1);
-    asking::next(rt, name, states, transitions, left, right, 2, list)?;
-    asking::check(rt, name, states, transitions, left, right, 2, list)
+pub(crate) fn largest<R: Print>(case: &Case<R>, call: Call) -> io::Result<()> {
+    let labels: [u8; 2 * MOST_STATES] = array::from_fn(label);
+    let nodes: [u16; MOST_NODE_NUMBERS] = array::from_fn(until);
+    let transitions = transitions();
+    let model = Model {
+        states: MOST_STATES,
+        atoms: 2,
+        labels: &labels,
+        initial: &[1; MOST_STATES],
+        transitions: &transitions,
+        nodes: &nodes,
+        room: MOST_VERDICTS,
+    };
+    judging::asked(case, call, &model)
 }
 
 // The same states and transitions asked for paths: from state 0 three states on at each step, and no other way.
-pub(crate) fn longest(rt: &impl Print, name: &[u8]) -> io::Result<()> {
-    let mut transitions = [0u16; MOST_TRANSITION_NUMBERS];
-    let left = [2u8; MOST_STATES];
+pub(crate) fn longest<R: Print>(case: &Case<R>) -> io::Result<()> {
+    let transitions = transitions();
     let mut right = [0u8; MOST_STATES];
-    fill(&mut transitions, TRANSITIONS);
     right[MOST_STATES - 1] = 2;
-    in_turn(rt, name, &transitions, &left, &right)
+    let question = Question {
+        states: MOST_STATES,
+        transitions: &transitions,
+        left: &[2; MOST_STATES],
+        right: &right,
+        level: 2,
+    };
+    let path = asking::first(case, question, 0, MOST_STATES)?;
+    let list = front(&path, (MOST_STATES - 1) / 3 + 1);
+    asking::next(case, question, list)?;
+    asking::check(case, question, list)
 }
 
 // One state with as many atoms as there may be, the last of them unknown: so is the conjunction of all. The last atom's node names this one.
-pub(crate) fn most_atoms(rt: &impl Print, name: &[u8], last: usize) -> io::Result<()> {
+pub(crate) fn most_atoms<R: Print>(case: &Case<R>, last: u16) -> io::Result<()> {
     let mut labels = [2u8; MOST_ATOMS];
-    let mut nodes = [0u16; 6 * MOST_ATOMS];
+    let mut nodes: [u16; 6 * MOST_ATOMS] = array::from_fn(conjunct);
     labels[MOST_ATOMS - 1] = 1;
-    fill(&mut nodes, CONJUNCTS);
-    nodes[3 * MOST_ATOMS - 2] = (last % 65536) as u16;
-    judging::asked(
-        rt,
-        JUDGE,
-        name,
-        1,
-        MOST_ATOMS,
-        &labels,
-        &[1],
-        &[0, 0],
-        &nodes,
-        2 * MOST_ATOMS,
-    )
+    nodes[3 * MOST_ATOMS - 2] = last;
+    let model = Model {
+        states: 1,
+        atoms: MOST_ATOMS,
+        labels: &labels,
+        initial: &[1],
+        transitions: &[0, 0],
+        nodes: &nodes,
+        room: 2 * MOST_ATOMS,
+    };
+    judging::asked(case, Call::Judge, &model)
+}
+
+// So many numbers of a list of nots, beginning with true, printed.
+pub(crate) fn nots<R: Print>(case: &Case<R>, count: usize) -> io::Result<()> {
+    let nodes: [u16; MOST_NODE_NUMBERS + 3] = array::from_fn(not);
+    formulas::print(case, front(&nodes, count), MOST_FORMULA)
 }

@@ -1,68 +1,54 @@
 // Texts of formulas as deep as a limit allows: a core in so many layers, each with an opening before and a closing behind.
-// A code is the three pieces, a comma behind each. The letter says how many layers:
-//
-//   a b   as many as the limit of nodes allows where a layer is one node, and one more
-//   c d   the same where a layer is two nodes
-//   e f   as many as the limit of the text allows, and one more
+ghost use Rattle.std.specs.Prelude.{◌≤◌, length};
+
 use crate::table::piece;
-use values::limits::{MOST_FORMULA, MOST_NODES};
+use values::limits::MOST_FORMULA;
 
-// How many layers of so many bytes the text has room for around a core.
-fn fitting(core: usize, layer: usize) -> usize {
-    if MOST_FORMULA < core {
-        return 0;
-    }
-    if layer == 0 {
-        return 0;
-    }
-    (MOST_FORMULA - core) / layer
+// How many layers: so many, as many as the limit of the text has room for, or one more.
+#[derive(Clone, Copy)]
+pub(crate) enum Depth {
+    Layers(usize),
+    Fitting,
+    OneMore,
 }
 
-fn layers(letter: u8, fit: usize) -> usize {
-    match letter {
-        b'a' => MOST_NODES - 1,
-        b'b' => MOST_NODES,
-        b'c' => (MOST_NODES - 1) / 2,
-        b'd' => (MOST_NODES - 1) / 2 + 1,
-        b'e' => fit,
-        // The remainder only shows that one more can be counted.
-        _ => fit % (MOST_FORMULA + 1) + 1,
-    }
-}
-
-// Puts a piece at a place of a page, as far as the page goes; the place behind it.
-fn put(page: &mut [u8], at: usize, piece: &[u8]) -> usize {
-    let mut place = at;
-    let mut i: usize = 0;
-    while i < piece.len() {
-        if page.len() <= place {
-            return place;
+impl Depth {
+    // The layers around a core of so many bytes, where a layer has so many.
+    fn layers(self, core: usize, layer: usize) -> usize {
+        let fitting = MOST_FORMULA
+            .saturating_sub(core)
+            .checked_div(layer)
+            .unwrap_or(0);
+        match self {
+            Depth::Layers(n) => n,
+            Depth::Fitting => fitting,
+            Depth::OneMore => fitting.saturating_add(1),
         }
-        page[place] = piece[i];
-        place += 1;
-        i += 1;
     }
-    place
 }
 
-fn repeat(page: &mut [u8], at: usize, piece: &[u8], times: usize) -> usize {
+// Puts a piece so many times at a place of a page, as far as the page goes; the place behind it.
+// kept: the place beside the page, since the next piece goes by it.
+fn repeat(page: &mut [u8], at: usize, piece: &[u8], times: usize) -> usize
+    requires { at ≤ length page.old }
+    ensures { result ≤ length page.new }
+{
     let mut place = at;
-    let mut i: usize = 0;
-    while i < times {
-        place = put(page, place, piece);
-        i += 1;
+    for _ in 0..times {
+        let n = piece.len().min(page.len() - place);
+        page[place..place + n].copy_from_slice(&piece[..n]);
+        place += n;
     }
     place
 }
 
-// The text of a code, at the front of a page; how many bytes it has.
-pub(crate) fn write(page: &mut [u8], letter: u8, code: &[u8]) -> usize {
+// The text of a code, at the front of a page; how many bytes it has. The code is an opening, a core and a closing, a comma behind each.
+pub(crate) fn write(page: &mut [u8], depth: Depth, code: &[u8]) -> usize {
     let opening = piece(code, 0, b',');
     let core = piece(code, 1, b',');
     let closing = piece(code, 2, b',');
-    let fit = fitting(core.len(), opening.len() + closing.len());
-    let n = layers(letter, fit);
+    let n = depth.layers(core.len(), opening.len() + closing.len());
     let a = repeat(page, 0, opening, n);
-    let b = put(page, a, core);
+    let b = repeat(page, a, core, 1);
     repeat(page, b, closing, n)
 }

@@ -1,113 +1,127 @@
-// What a case writes: which call, its name, numbers, words, and whether what was lent stayed.
-use crate::spaces;
-use crate::table::part;
-use answer::{MOST_PATH_LINE, Written};
-use std::io;
+// What a case writes: which call, its name, numbers, and whether what was lent stayed.
+use crate::spaces::front;
+use answer::MOST_PATH_LINE;
+use std::{fmt, io};
+use values::refusal::Refusal;
 
-// The calls; a night is told in short, and names none.
-pub(crate) const READ: usize = 0;
-
-pub(crate) const TEXT: usize = 1;
-
-pub(crate) const FIRST: usize = 2;
-
-pub(crate) const NEXT: usize = 3;
-
-pub(crate) const CHECK: usize = 4;
-
-pub(crate) const JUDGE: usize = 5;
-
-pub(crate) const NIGHT: usize = 6;
-
-pub(crate) const READ_FORMULA: usize = 7;
-
-pub(crate) const PRINT_FORMULA: usize = 8;
-
-pub(crate) const PRINT_PART: usize = 9;
-
-pub(crate) const JUDGE_FORMULA: usize = 10;
-
-pub(crate) const LABEL: usize = 11;
-
-pub(crate) const PICTURE: usize = 12;
-
-pub(crate) const CHECK_PICTURE: usize = 13;
-
-// What is lent, whole or behind what was written.
-pub(crate) const REST: usize = 0;
-
-pub(crate) const VERDICT_SPACE: usize = 1;
-
-pub(crate) const TABLES: usize = 2;
-
-pub(crate) const PATH_SPACE: usize = 3;
-
-pub(crate) const LIST: usize = 4;
-
-pub(crate) const NODE_SPACE: usize = 5;
-
-pub(crate) const TEXT_SPACE: usize = 6;
-
-pub(crate) fn write(rt: &impl Print, text: &[u8]) -> io::Result<()> {
-    rt.write_all(text)
+#[derive(Clone, Copy, PartialEq, Eq)]
+pub(crate) enum Call {
+    Read,
+    Text,
+    First,
+    Next,
+    Check,
+    Judge,
+    Night,
+    ReadFormula,
+    PrintFormula,
+    PrintPart,
+    JudgeFormula,
+    Label,
+    Picture,
+    CheckPicture,
 }
 
-// Word k of a table.
-pub(crate) fn say(rt: &impl Print, words: &[u8], k: usize) -> io::Result<()> {
-    write(rt, part(words, k))
+// How a call's line begins; a night is told in short, and names none.
+impl fmt::Display for Call {
+    fn fmt<W: fmt::Write>(&self, f: &mut fmt::Formatter<W>) -> fmt::Result {
+        f.write_str(match self {
+            Call::Read => "read, ",
+            Call::Text => "text, ",
+            Call::First => "first, ",
+            Call::Next => "next, ",
+            Call::Check => "check, ",
+            Call::Judge => "judge, ",
+            Call::Night => "",
+            Call::ReadFormula => "read formula, ",
+            Call::PrintFormula => "print formula, ",
+            Call::PrintPart => "print part, ",
+            Call::JudgeFormula => "judge formula, ",
+            Call::Label => "label, ",
+            Call::Picture => "picture, ",
+            Call::CheckPicture => "check picture, ",
+        })
+    }
 }
 
-// Word k of a table, and a number.
-pub(crate) fn count(rt: &impl Print, words: &[u8], k: usize, number: usize) -> io::Result<()> {
-    say(rt, words, k)?;
-    print!(rt; "{number}")
+// What is lent, whole, or the rest of it behind what was written.
+#[derive(Clone, Copy)]
+pub(crate) enum Lent {
+    Rest,
+    VerdictSpace,
+    Tables,
+    PathSpace,
+    List,
+    NodeSpace,
+    TextSpace,
+}
+
+impl fmt::Display for Lent {
+    fn fmt<W: fmt::Write>(&self, f: &mut fmt::Formatter<W>) -> fmt::Result {
+        f.write_str(match self {
+            Lent::Rest => "rest",
+            Lent::VerdictSpace => "verdict space",
+            Lent::Tables => "tables",
+            Lent::PathSpace => "path space",
+            Lent::List => "list",
+            Lent::NodeSpace => "node space",
+            Lent::TextSpace => "text space",
+        })
+    }
+}
+
+// A case that is told: where to, and its name.
+#[derive(Drop)]
+pub(crate) struct Case<'a, R> {
+    pub(crate) rt: &'a R,
+    pub(crate) name: &'a [u8],
+}
+
+impl<'a, R: Print> Case<'a, R> {
+    // The beginning of a line: which call, and the name.
+    pub(crate) fn begin(&self, call: Call) -> io::Result<()> {
+        print!(self.rt; "{call}")?;
+        self.rt.write_all(self.name)?;
+        print!(self.rt; ": ")
+    }
+
+    // The number of a refusal.
+    // kept: a sheet has a number, and no refusal.
+    pub(crate) fn answer(&self, number: u8) -> io::Result<()> {
+        print!(self.rt; "answer={number}")
+    }
+
+    // The line of a path, without its line feed.
+    pub(crate) fn path(&self, path: &[u16]) -> io::Result<()> {
+        let mut line = [0u8; MOST_PATH_LINE];
+        let Ok(n) = answer::write_path(path, &mut line) else {
+            return Ok(());
+        };
+        self.rt.write_all(front(&line, n.saturating_sub(1)))
+    }
+
+    // The end of a line: whether what is named stayed as it was.
+    pub(crate) fn kept(&self, what: Lent, same: bool) -> io::Result<()> {
+        let word = if same { "kept" } else { "changed" };
+        println!(self.rt; ", {what} {word}")
+    }
+
+    // The line of a check.
+    pub(crate) fn checked(&self, call: Call, answer: Result<bool, Refusal>) -> io::Result<()> {
+        self.begin(call)?;
+        match answer {
+            Ok(true) => println!(self.rt; "yes"),
+            Ok(false) => println!(self.rt; "no"),
+            Err(refusal) => println!(self.rt; "answer={}", refusal.number()),
+        }
+    }
 }
 
 // The limits in force, in the order of the rules' table.
 pub(crate) fn limits(rt: &impl Print) -> io::Result<()> {
     let most = values::limits::in_force();
-    let words = b"limits: states=| atoms=| transitions=| nodes=| text=| formula=| kind=|\n|";
-    count(rt, words, 0, most.states)?;
-    count(rt, words, 1, most.atoms)?;
-    count(rt, words, 2, most.transitions)?;
-    count(rt, words, 3, most.nodes)?;
-    count(rt, words, 4, most.text)?;
-    count(rt, words, 5, most.formula)?;
-    count(rt, words, 6, most.kind as usize)?;
-    say(rt, words, 7)
-}
-
-// Which call a line is of, and its case.
-pub(crate) fn case(rt: &impl Print, call: usize, name: &[u8]) -> io::Result<()> {
-    let words = b"read, |text, |first, |next, |check, |judge, ||\
-        read formula, |print formula, |print part, |judge formula, |label, |picture, |check picture, |: |";
-    say(rt, words, call)?;
-    write(rt, name)?;
-    say(rt, words, 14)
-}
-
-pub(crate) fn answer(rt: &impl Print, number: u8) -> io::Result<()> {
-    count(rt, b"answer=|", 0, number as usize)
-}
-
-// The line of a path, without its line feed.
-pub(crate) fn path(rt: &impl Print, path: &[u16]) -> io::Result<()> {
-    let mut buffer = [0u8; MOST_PATH_LINE];
-    match answer::write_path(path, &mut buffer) {
-        Written::Bytes(n) => {
-            if 0 < n {
-                write(rt, spaces::bytes(&buffer, n - 1))?
-            }
-        }
-        _ => {}
-    }
-    Ok(())
-}
-
-// The end of a line: whether what is named stayed as it was.
-pub(crate) fn kept(rt: &impl Print, what: usize, same: bool) -> io::Result<()> {
-    let words =
-        b", rest|, verdict space|, tables|, path space|, list|, node space|, text space| kept\n| changed\n|";
-    say(rt, words, what)?;
-    say(rt, words, if same { 7 } else { 8 })
+    println!(rt;
+        "limits: states={} atoms={} transitions={} nodes={} text={} formula={} kind={}",
+        most.states, most.atoms, most.transitions, most.nodes, most.text, most.formula, most.kind
+    )
 }

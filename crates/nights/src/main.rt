@@ -5,7 +5,7 @@
 //   largest    as much of everything as there may be
 //   layers     formulas as deep as there may be
 //   judging, asking, picturing, reading, formulas, labels   the calls asked and told
-//   table, lines, spaces   the parts of a table, the words of a line, what was lent compared
+//   table, lines, spaces   the pieces of a row, the words of a line, what was lent compared
 #![tactic(auto)]
 
 mod asking;

@@ -1,159 +1,144 @@
 // Texts asked: read by `read_model`, and judged by `judge_text`.
 ghost use Rattle.std.specs.Prelude.{◌<◌, ◌≤◌};
 
-use crate::lines::{READ, REST, TABLES, TEXT};
-use crate::spaces::{PATTERN, PATTERN_NUMBER};
-use crate::{judging, lines, spaces};
+use crate::judging;
+use crate::lines::{Call, Case, Lent};
+use crate::spaces::{PATTERN, PATTERN_NUMBER, kept};
 use std::io;
-use text::Read;
+use text::Counts;
 use values::limits::{
     MOST_LABELS, MOST_NODE_NUMBERS, MOST_STATES, MOST_TEXT, MOST_TRANSITION_NUMBERS, MOST_VERDICTS,
 };
+use values::refusal::Refusal;
 
-// The tables, of which one may be too short, and none.
-pub(crate) const NONE: usize = 0;
-
-const LABELS: usize = 1;
-
-const INITIAL: usize = 2;
-
-const TRANSITIONS: usize = 3;
-
-pub(crate) const NODES: usize = 4;
-
-// What reading answered: 0 and the counts, or the number of the refusal and zeros.
-#[derive(Clone, Copy)]
-struct Counts {
-    number: u8,
-    states: usize,
-    atoms: usize,
-    transitions: usize,
-    nodes: usize,
+// The tables that are lent, of which one may be too short.
+#[derive(Clone, Copy, PartialEq, Eq)]
+pub(crate) enum Table {
+    Labels,
+    Initial,
+    Transitions,
+    Nodes,
 }
 
-fn counted(answer: Read) -> Counts {
+impl Table {
+    // The table that a case's letter, a digit, names.
+    pub(crate) fn of(letter: u8) -> Option<Table> {
+        match letter % 16 {
+            1 => Some(Table::Labels),
+            2 => Some(Table::Initial),
+            3 => Some(Table::Transitions),
+            4 => Some(Table::Nodes),
+            _ => None,
+        }
+    }
+
+    // How long a table is lent: one entry short where it is the one that is too short.
+    fn lent(self, most: usize, short: Option<Table>) -> usize
+        requires { 0 < most }
+        ensures { result ≤ most }
+    {
+        if short == Some(self) { most - 1 } else { most }
+    }
+}
+
+// kept: the tables of text and sheet again: theirs stand within, with methods that have requires, which no public function has.
+#[derive(Drop)]
+struct Tables {
+    labels: [u8; MOST_LABELS],
+    initial: [u8; MOST_STATES],
+    transitions: [u16; MOST_TRANSITION_NUMBERS],
+    nodes: [u16; MOST_NODE_NUMBERS],
+}
+
+impl Tables {
+    fn patterned() -> Tables {
+        Tables {
+            labels: [PATTERN; MOST_LABELS],
+            initial: [PATTERN; MOST_STATES],
+            transitions: [PATTERN_NUMBER; MOST_TRANSITION_NUMBERS],
+            nodes: [PATTERN_NUMBER; MOST_NODE_NUMBERS],
+        }
+    }
+
+    // A text read into tables of which one may be lent too short: the tables, and what reading answers.
+    fn of_text(text: &[u8], short: Option<Table>) -> (Tables, Result<Counts, Refusal>) {
+        let Tables {
+            mut labels,
+            mut initial,
+            mut transitions,
+            mut nodes,
+        } = Tables::patterned();
+        let answer = text::read_model(
+            text,
+            &mut labels[..Table::Labels.lent(MOST_LABELS, short)],
+            &mut initial[..Table::Initial.lent(MOST_STATES, short)],
+            &mut transitions[..Table::Transitions.lent(MOST_TRANSITION_NUMBERS, short)],
+            &mut nodes[..Table::Nodes.lent(MOST_NODE_NUMBERS, short)],
+        );
+        let tables = Tables {
+            labels,
+            initial,
+            transitions,
+            nodes,
+        };
+        (tables, answer)
+    }
+
+    // Whether the tables hold the pattern behind what was filled.
+    fn kept(&self, filled: Counts) -> bool {
+        let before = Tables::patterned();
+        kept(
+            &self.labels,
+            &before.labels,
+            filled.states.saturating_mul(filled.atoms),
+        ) && kept(&self.initial, &before.initial, filled.states)
+            && kept(
+                &self.transitions,
+                &before.transitions,
+                filled.transitions.saturating_mul(2),
+            )
+            && kept(&self.nodes, &before.nodes, filled.nodes.saturating_mul(3))
+    }
+}
+
+const NOTHING: Counts = Counts {
+    states: 0,
+    atoms: 0,
+    transitions: 0,
+    nodes: 0,
+};
+
+// A text read, with one table too short or none: what reading answers, and whether the tables stayed, or what is behind their fronts.
+pub(crate) fn read<R: Print>(case: &Case<R>, text: &[u8], short: Option<Table>) -> io::Result<()> {
+    let (tables, answer) = Tables::of_text(text, short);
+    case.begin(Call::Read)?;
     match answer {
-        Read::Refused(number) => Counts {
-            number,
-            states: 0,
-            atoms: 0,
-            transitions: 0,
-            nodes: 0,
-        },
-        Read::Model {
-            states,
-            atoms,
-            transitions,
-            nodes,
-        } => Counts {
-            number: 0,
-            states,
-            atoms,
-            transitions,
-            nodes,
-        },
+        Err(refusal) => {
+            case.answer(refusal.number())?;
+            case.kept(Lent::Tables, tables.kept(NOTHING))
+        }
+        Ok(counts) => {
+            print!(case.rt;
+                "states={} atoms={} edges={} nodes={}",
+                counts.states, counts.atoms, counts.transitions, counts.nodes
+            )?;
+            case.kept(Lent::Rest, tables.kept(counts))
+        }
     }
-}
-
-// Whether the tables hold the pattern behind what was filled.
-fn kept(filled: Counts, labels: &[u8], initial: &[u8], transitions: &[u16], nodes: &[u16]) -> bool {
-    let before = [PATTERN_NUMBER; MOST_TRANSITION_NUMBERS];
-    let of_nodes = spaces::numbers(&before, MOST_NODE_NUMBERS);
-    if !spaces::bytes_kept(labels, spaces::parts(filled.states, filled.atoms)) {
-        return false;
-    }
-    if !spaces::bytes_kept(initial, filled.states) {
-        return false;
-    }
-    if !spaces::numbers_kept(transitions, &before, spaces::parts(filled.transitions, 2)) {
-        return false;
-    }
-    spaces::numbers_kept(nodes, of_nodes, spaces::parts(filled.nodes, 3))
-}
-
-// What reading answered, and whether the tables stayed, or what is behind their fronts.
-fn tell(rt: &impl Print, counts: Counts, same: bool) -> io::Result<()> {
-    if counts.number != 0 {
-        lines::answer(rt, counts.number)?;
-        return lines::kept(rt, TABLES, same);
-    }
-    let words = b"states=| atoms=| edges=| nodes=|";
-    lines::count(rt, words, 0, counts.states)?;
-    lines::count(rt, words, 1, counts.atoms)?;
-    lines::count(rt, words, 2, counts.transitions)?;
-    lines::count(rt, words, 3, counts.nodes)?;
-    lines::kept(rt, REST, same)
-}
-
-// How long a table is lent: one entry short where it is the one that is too short.
-fn lent(most: usize, table: usize, short: usize) -> usize
-    requires { 0 < most }
-    ensures { result ≤ most }
-{
-    if table == short { most - 1 } else { most }
-}
-
-// A text read, with one table too short or none.
-pub(crate) fn read(rt: &impl Print, name: &[u8], text: &[u8], short: usize) -> io::Result<()> {
-    let mut labels = [PATTERN; MOST_LABELS];
-    let mut initial = [PATTERN; MOST_STATES];
-    let mut transitions = [PATTERN_NUMBER; MOST_TRANSITION_NUMBERS];
-    let mut nodes = [PATTERN_NUMBER; MOST_NODE_NUMBERS];
-    let l = lent(MOST_LABELS, LABELS, short);
-    let i = lent(MOST_STATES, INITIAL, short);
-    let t = lent(MOST_TRANSITION_NUMBERS, TRANSITIONS, short);
-    let n = lent(MOST_NODE_NUMBERS, NODES, short);
-    let answer = text::read_model(
-        text,
-        &mut labels[..l],
-        &mut initial[..i],
-        &mut transitions[..t],
-        &mut nodes[..n],
-    );
-    let counts = counted(answer);
-    lines::case(rt, READ, name)?;
-    tell(
-        rt,
-        counts,
-        kept(counts, &labels, &initial, &transitions, &nodes),
-    )
 }
 
 // A text read, and judged with so much room.
-pub(crate) fn asked(rt: &impl Print, name: &[u8], text: &[u8], room: usize) -> io::Result<()> {
-    read(rt, name, text, NONE)?;
+pub(crate) fn asked<R: Print>(case: &Case<R>, text: &[u8], room: usize) -> io::Result<()> {
+    read(case, text, None)?;
     let mut space = [PATTERN; MOST_VERDICTS];
-    let lent = spaces::least(room, MOST_VERDICTS);
-    let sheet = sheet::judge_text(text, &mut space[..lent]);
-    judging::told(rt, TEXT, name, sheet, 0, &space)
+    let sheet = sheet::judge_text(text, &mut space[..room.min(MOST_VERDICTS)]);
+    judging::told(case, Call::Text, sheet, &space)
 }
 
-// A text with line feeds behind it.
+// A text with line feeds behind it, up to one beyond the limit.
 pub(crate) fn page(text: &[u8]) -> [u8; MOST_TEXT + 1] {
     let mut page = [b'\n'; MOST_TEXT + 1];
-    let n = spaces::least(text.len(), MOST_TEXT + 1);
-    let mut i: usize = 0;
-    while i < n {
-        page[i] = text[i];
-        i += 1;
-    }
+    let n = text.len().min(page.len());
+    page[..n].copy_from_slice(&text[..n]);
     page
-}
-
-// So many bytes of a text with line feeds behind it, with one table too short or none.
-pub(crate) fn padded(
-    rt: &impl Print,
-    name: &[u8],
-    text: &[u8],
-    size: usize,
-    short: usize,
-) -> io::Result<()> {
-    let page = page(text);
-    let front = spaces::bytes(&page, size);
-    if short == NONE {
-        asked(rt, name, front, MOST_VERDICTS)?;
-    } else {
-        read(rt, name, front, short)?;
-    }
-    Ok(())
 }

@@ -1,11 +1,6 @@
-// A table of cases or words: parts of bytes, a bar behind each.
+// A row of pieces, a mark behind each.
 
-// Piece k of a row, without the mark that is behind each; empty where there is none.
+// Piece k of a row, without the mark that is behind it; empty where there is none.
 pub(crate) fn piece(row: &[u8], k: usize, mark: u8) -> &[u8] {
     row.split(|byte| *byte == mark).nth(k).unwrap_or(&[])
-}
-
-// Part k of a table.
-pub(crate) fn part(table: &[u8], k: usize) -> &[u8] {
-    piece(table, k, b'|')
 }

@@ -26,45 +26,44 @@ mod numbers;
 mod reasons;
 mod telling;
 
-use answer::MOST_LINE;
-use sheet::{Line, Sheet};
+use asking::Asked;
+use numbers::Lines;
 use std::io;
 use std::io::Read;
 use values::limits::{MOST_NODES, MOST_VERDICTS};
 
 // The whole answer, up to its end: the number, a row a node, the model's verdict.
-fn write_answer(rt: &impl Print, sheet: Sheet, verdicts: &[u8]) -> io::Result<()> {
-    let mut line = [0u8; MOST_LINE];
+fn model(rt: &impl Print, text: &[u8]) -> io::Result<()> {
+    let mut verdicts = [0u8; MOST_VERDICTS];
+    let sheet = sheet::judge_text(text, &mut verdicts);
     for k in 0..MOST_NODES + 2 {
-        let Line::Bytes(n) = sheet::write_line(sheet, verdicts, k, &mut line) else {
+        if !telling::line(rt, sheet, &verdicts, k)? {
             return Ok(());
-        };
-        rt.write_all(&line[..n])?;
+        }
     }
     Ok(())
 }
 
-fn model(rt: &impl Print, text: &[u8]) -> io::Result<()> {
-    let mut verdicts = [0u8; MOST_VERDICTS];
-    let sheet = sheet::judge_text(text, &mut verdicts);
-    write_answer(rt, sheet, &verdicts)
-}
-
-fn answer(rt: &impl Print, body: &[u8]) -> io::Result<()> {
-    if body.len() < 2 {
+fn answer(rt: &impl Print, frame: &[u8]) -> io::Result<()> {
+    let [kind, _, body @ ..] = frame else {
         return Ok(());
-    }
-    let kind = body[0];
-    match kind {
-        b'M' => model(rt, &body[2..])?,
-        b'R' => formulas::read(rt, body)?,
-        b'P' | b'K' => formulas::print(rt, body, kind)?,
-        b'Q' => formulas::judge(rt, body)?,
+    };
+    let lines = Lines { rest: body };
+    match *kind {
+        b'M' => model(rt, body)?,
+        b'F' => asking::ask(rt, Asked::Paths, lines)?,
+        b'N' => asking::ask(rt, Asked::Next, lines)?,
+        b'R' => formulas::read(rt, lines)?,
+        b'P' => formulas::print(rt, lines)?,
+        b'K' => formulas::print_part(rt, lines)?,
+        b'Q' => formulas::judge(rt, lines)?,
         b'V' => measures::voltage(rt, body)?,
         b'D' => measures::ticks(rt, body)?,
         b'L' => measures::lines(rt, body)?,
-        b'W' | b'S' | b'X' => reasons::question(rt, body, kind)?,
-        _ => asking::question(rt, body, kind)?,
+        b'W' => asking::ask(rt, Asked::Reason, lines)?,
+        b'S' => asking::ask(rt, Asked::Picture, lines)?,
+        b'X' => asking::ask(rt, Asked::CheckPicture, lines)?,
+        _ => asking::ask(rt, Asked::Check, lines)?,
     }
     println!(rt; ".")
 }
@@ -78,7 +77,7 @@ fn turn(rt: &impl Print, reader: &mut impl Read) -> io::Result<bool> {
     if input::fill(reader, &mut head)? != 7 {
         return Ok(false);
     }
-    let n = numbers::of_digits(&head);
+    let n = numbers::decimal(&head[..6]) as usize;
     if MOST_BODY < n {
         return Ok(false);
     }

@@ -1,27 +1,35 @@
 // Answers of the path calls, of the formula calls, of the label calls and of the picture calls, written out.
-use crate::asking::bytes;
-use answer::{MOST_LINE, MOST_PATH_LINE, Written};
-use formula::Printed;
-use listing::{Call, Told};
-use paths::CheckAnswer;
-use readings::Labelled;
-use std::io;
-
-// How many paths are told before the rest is left at `more`.
-pub(crate) const MOST_TOLD: usize = 200;
+use crate::numbers::front;
+use answer::{MOST_LINE, MOST_PATH_LINE, Unwritten};
+use sheet::Sheet;
+use std::{fmt, io};
+use values::refusal::Refusal;
+use values::verdict::Verdict;
 
 // The bytes that a writer put at the front of a line.
-fn put(rt: &impl Print, written: Written, line: &[u8]) -> io::Result<()> {
-    let Written::Bytes(n) = written else {
-        return Ok(());
-    };
-    if n <= line.len() {
-        rt.write_all(&line[..n])?;
+pub(crate) fn put(
+    rt: &impl Print,
+    written: Result<usize, Unwritten>,
+    line: &[u8],
+) -> io::Result<()> {
+    match written {
+        Ok(n) => rt.write_all(front(line, n)),
+        Err(_) => Ok(()),
     }
-    Ok(())
+}
+
+// Line k of a whole answer; whether there is one.
+pub(crate) fn line(rt: &impl Print, sheet: Sheet, verdicts: &[u8], k: usize) -> io::Result<bool> {
+    let mut line = [0u8; MOST_LINE];
+    let Ok(Some(n)) = sheet::write_line(sheet, verdicts, k, &mut line) else {
+        return Ok(false);
+    };
+    rt.write_all(front(&line, n))?;
+    Ok(true)
 }
 
 // The number of a refusal, or 0.
+// kept: a sheet has a number, and the line of 0 is written by the same call.
 pub(crate) fn number(rt: &impl Print, number: u8) -> io::Result<()> {
     let mut line = [0u8; MOST_LINE];
     let written = answer::write_number(number, &mut line);
@@ -29,113 +37,66 @@ pub(crate) fn number(rt: &impl Print, number: u8) -> io::Result<()> {
 }
 
 // A label's letter, or the number of its refusal.
-pub(crate) fn labelled(rt: &impl Print, answer: Labelled) -> io::Result<()> {
+// kept: a Verdict may be none of the three, and a Display would have to print that too.
+pub(crate) fn labelled(rt: &impl Print, answer: Result<Verdict, Refusal>) -> io::Result<()> {
     match answer {
-        Labelled::Is(label) => letter(rt, label.number()),
-        Labelled::Refused(refusal) => number(rt, refusal),
+        Ok(Verdict::FALSE) => println!(rt; "F"),
+        Ok(Verdict::UNKNOWN) => println!(rt; "U"),
+        Ok(_) => println!(rt; "T"),
+        Err(refusal) => number(rt, refusal.number()),
     }
-}
-
-fn letter(rt: &impl Print, value: u8) -> io::Result<()> {
-    match value {
-        0 => println!(rt; "F"),
-        1 => println!(rt; "U"),
-        _ => println!(rt; "T"),
-    }
-}
-
-// Line after line, so many at the most: path after path, and how the listing ends.
-pub(crate) fn list(
-    rt: &impl Print,
-    states: usize,
-    transitions: &[u16],
-    left: &[u8],
-    right: &[u8],
-    level: u8,
-    first: Call,
-    lines: usize,
-    space: &mut [u16],
-) -> io::Result<()> {
-    let mut line = [0u8; MOST_PATH_LINE];
-    let mut call = first;
-    let mut rest = MOST_TOLD;
-    for _ in 0..lines {
-        let listed = listing::write_line(
-            states,
-            transitions,
-            left,
-            right,
-            level,
-            rest,
-            call,
-            space,
-            &mut line,
-        );
-        let written = listed.line;
-        let told = listed.told;
-        put(rt, written, &line)?;
-        let Told::Path(n) = told else {
-            return Ok(());
-        };
-        call = Call::Next(n);
-        rest -= 1;
-    }
-    Ok(())
-}
-
-pub(crate) fn checked(
-    rt: &impl Print,
-    states: usize,
-    transitions: &[u16],
-    left: &[u8],
-    right: &[u8],
-    level: u8,
-    list: &[u16],
-) -> io::Result<()> {
-    let answer = paths::check(states, transitions, left, right, level, list);
-    word(rt, answer)
 }
 
 // What a check says of a list.
-pub(crate) fn word(rt: &impl Print, answer: CheckAnswer) -> io::Result<()> {
+pub(crate) fn word(rt: &impl Print, answer: Result<bool, Refusal>) -> io::Result<()> {
     match answer {
-        CheckAnswer::Yes => println!(rt; "yes"),
-        CheckAnswer::No => println!(rt; "no"),
-        CheckAnswer::Refused(refusal) => number(rt, refusal),
+        Ok(true) => println!(rt; "yes"),
+        Ok(false) => println!(rt; "no"),
+        Err(refusal) => number(rt, refusal.number()),
     }
 }
 
-// The numbers of a list behind a name, as a path's line has its states behind five bytes.
-pub(crate) fn named(rt: &impl Print, name: &[u8], list: &[u16]) -> io::Result<()> {
+// kept: the twin of witness's tell_list: of what is printed no contract says anything, so a shared function could promise nothing.
+pub(crate) fn path(rt: &impl Print, path: &[u16]) -> io::Result<()> {
     let mut line = [0u8; MOST_PATH_LINE];
-    let Written::Bytes(n) = answer::write_path(list, &mut line) else {
-        return Ok(());
-    };
-    if n < 5 {
-        return Ok(());
+    let written = answer::write_path(path, &mut line);
+    put(rt, written, &line)
+}
+
+// Numbers with commas between them.
+#[derive(Debug, Drop)]
+struct Commas<'a>(&'a [u16]);
+
+impl<'a> fmt::Display for Commas<'a> {
+    fn fmt<W: fmt::Write>(&self, f: &mut fmt::Formatter<W>) -> fmt::Result {
+        let mut mark = "";
+        for number in self.0 {
+            write!(f, "{mark}{number}")?;
+            mark = ",";
+        }
+        Ok(())
     }
-    if line.len() < n {
-        return Ok(());
-    }
-    rt.write_all(name)?;
-    rt.write_all(&line[5..n])
 }
 
 // The numbers of the nodes that were read.
 pub(crate) fn nodes(rt: &impl Print, list: &[u16]) -> io::Result<()> {
     number(rt, 0)?;
-    named(rt, b"nodes=", list)
+    println!(rt; "nodes={}", Commas(list))
 }
 
 // The text that was printed at the front of a space.
-pub(crate) fn printed(rt: &impl Print, answer: Printed, space: &[u8]) -> io::Result<()> {
+pub(crate) fn printed(
+    rt: &impl Print,
+    answer: Result<usize, Refusal>,
+    space: &[u8],
+) -> io::Result<()> {
     match answer {
-        Printed::Bytes(n) => {
+        Ok(n) => {
             number(rt, 0)?;
-            rt.write_all(b"text=")?;
-            rt.write_all(bytes(space, n))?;
-            rt.write_all(b"\n")
+            print!(rt; "text=")?;
+            rt.write_all(front(space, n))?;
+            println!(rt)
         }
-        Printed::Refused(refusal) => number(rt, refusal),
+        Err(refusal) => number(rt, refusal.number()),
     }
 }

@@ -17,10 +17,9 @@ mod words;
 use std::env::Env;
 use std::io;
 use values::limits::{MOST_FORMULA, MOST_TEXT};
-use words::Question;
 
 fn main(rt: HostRuntime) -> io::Result<()> {
-    let Question::Asked(wanted) = words::asked(&rt) else {
+    let Some(wanted) = words::asked(&rt) else {
         return println!(rt;
             "no question: give a node or a formula, a state, true, possible or false, and at most how many paths if not all"
         );

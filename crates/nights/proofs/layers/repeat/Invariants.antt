@@ -1,11 +1,8 @@
--- `repeat` ends; the page keeps its length.
+-- What `repeat` puts stays within the page, which keeps its length.
 use mathlib.Core.Path.{◌≡◌}
-use Prim.Native.Nat.{◌-◌}
+use Prim.Native.Nat.{◌≤◌}
 use lib.ListN.{length}
 use Rattle.nights.proofs.layers.repeat.Given as goal
 
-abbrev pub invariant-loop-i : goal.invariant-loop-i
-invariant-loop-i l = length l.page ≡ length l.initial.page
-
-abbrev pub decreases-loop-i : goal.decreases-loop-i
-decreases-loop-i l = l.times - l.i
+abbrev pub invariant-loop : goal.invariant-loop
+invariant-loop l = (l.place ≤ length l.page) × (length l.page ≡ length l.initial.page)

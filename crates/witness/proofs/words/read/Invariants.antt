@@ -1,9 +1,0 @@
--- `read` ends and stays within its word.
-use Prim.Native.Nat.{◌-◌, ◌≤◌}
-use Rattle.witness.proofs.words.read.Given as goal
-
-abbrev pub invariant-loop-i : goal.invariant-loop-i
-invariant-loop-i l = l.i ≤ l.n
-
-abbrev pub decreases-loop-i : goal.decreases-loop-i
-decreases-loop-i l = l.n - l.i
