@@ -20,7 +20,9 @@ use Rattle.formula.specs.Text.{text_of}
 use Rattle.formula.specs.Meaning.{value, value_row}
 use Rattle.formula.specs.Answers as formula
 use Rattle.formula.proofs.Sizes.{nodes_length}
-use Rattle.formula.specs.declared.Printed.TheVariants as printed
+use Rattle.std.specs.Prelude.{Ok, Err}
+use Rattle.values.specs.declared.refusal.Refusal.{Refusal}
+use Rattle.values.specs.declared.refusal.Refusal.TheVariants.{NodeList, FormulaForm, TableSpace}
 use Rattle.formula.proofs.EachPart.{yields_each}
 use Rattle.formula.proofs.OneReading.{one_text}
 use Rattle.formula.proofs.PrintingLaws.{prints_back, yields_one, yields_part_one, formula_printed_one, part_printed_one}
@@ -49,16 +51,16 @@ text_is_accepted = reads_text
 pub one_reading_each : OneReadingEach
 one_reading_each = one_text
 
-because : (text : List ℕ) (room n : ℕ) (o : formula.Outcome) → o ≡ formula.Outcome.refusal n → formula.Reads text room o → RefusedBecause text room n
-because text room n o e (formula.Reads.tight h c) = inl ((let z : n ≡ 24 = cc in z), h)
-because text room n o e (formula.Reads.unspelt h k c) = inr (inl ((let z : n ≡ 20 = cc in z), h, k))
-because text room n o e (formula.Reads.many h f s k c) = inr (inr ((let z : n ≡ 10 = cc in z), h, (f, s, k)))
-because text room n o e (formula.Reads.reads h f s k c) = absurd (let z : ◌≡◌ {A = ℕ} 0 1 = cc in omega arith)
+because : (text : List ℕ) (room : ℕ) (e : Refusal) (o : formula.Outcome) → o ≡ formula.Outcome.refusal e → formula.Reads text room o → RefusedBecause text room e
+because text room e o q (formula.Reads.tight h c) = inl ((let z : e ≡ TableSpace = cc in z), h)
+because text room e o q (formula.Reads.unspelt h k c) = inr (inl ((let z : e ≡ FormulaForm = cc in z), h, k))
+because text room e o q (formula.Reads.many h f s k c) = inr (inr ((let z : e ≡ NodeList = cc in z), h, (f, s, k)))
+because text room e o q (formula.Reads.reads h f s k c) = absurd (let z : ◌≡◌ {A = ℕ} 0 1 = cc in omega arith)
 
 pub reading_refused : ReadingRefused
-reading_refused text before after n p =
-    let c = refused_comes text before after n p in
-    (because text (length before) n (formula.Outcome.refusal n) refl c.0, c.1)
+reading_refused text before after e p =
+    let c = refused_comes text before after e p in
+    (because text (length before) e (formula.Outcome.refusal e) refl c.0, c.1)
 
 pub printed_back : PrintedBack
 printed_back text nodes nodes' n before after r p h q =
@@ -67,14 +69,14 @@ printed_back text nodes nodes' n before after r p h q =
     let l : length (nodes_of f) ≡ 3 * n = nodes_length 0 f ∙ ap (λ (x : ℕ). 3 * x) (sym a.count) in
     let e : take (3 * n) nodes' ≡ nodes_of f = ap (take (3 * n)) a.filled ∙ take_at (nodes_of f) (drop (length (nodes_of f)) nodes) (3 * n) l in
     let w = prints_back a.accepted h (subst (λ (x : List ℕ). formula.FormulaPrinted (formula.Yields x) before after r) e q) in
-    (w.0 ∙ ap (λ (x : List ℕ). printed.Bytes (length x)) (sym a.spelt), w.1 ∙ ap (λ (x : List ℕ). fill x before) (sym a.spelt))
+    (w.0 ∙ ap (λ (x : List ℕ). Ok (length x)) (sym a.spelt), w.1 ∙ ap (λ (x : List ℕ). fill x before) (sym a.spelt))
 
 printed_of_lem : (IsOf : Formula → Type 0) → ((f g : Formula) → IsOf f → IsOf g → f ≡ g) → (before after : List ℕ) (n : ℕ) (o : formula.Outcome) → formula.Prints IsOf (length before) o
-    → printed.Bytes n ≡ formula.printed_of o → after ≡ formula.space_after text_of o before → formula.PrintedOf IsOf before after n
-printed_of_lem IsOf single before after n o (formula.Prints.tight h e) a s = let q : printed.Bytes n ≡ printed.Refused 24 = a ∙ ap formula.printed_of e in absurd (let z : ◌≡◌ {A = ℕ} 0 1 = cc in omega arith)
-printed_of_lem IsOf single before after n o (formula.Prints.unyielded h k e) a s = let q : printed.Bytes n ≡ printed.Refused 20 = a ∙ ap formula.printed_of e in absurd (let z : ◌≡◌ {A = ℕ} 0 1 = cc in omega arith)
+    → Ok n ≡ formula.printed_of o → after ≡ formula.space_after text_of o before → formula.PrintedOf IsOf before after n
+printed_of_lem IsOf single before after n o (formula.Prints.tight h e) a s = let q : Ok n ≡ Err TableSpace = a ∙ ap formula.printed_of e in absurd (let z : ◌≡◌ {A = ℕ} 0 1 = cc in omega arith)
+printed_of_lem IsOf single before after n o (formula.Prints.unyielded h k e) a s = let q : Ok n ≡ Err FormulaForm = a ∙ ap formula.printed_of e in absurd (let z : ◌≡◌ {A = ℕ} 0 1 = cc in omega arith)
 printed_of_lem IsOf single before after n o (formula.Prints.prints h f y e) a s =
-    let q : printed.Bytes n ≡ printed.Bytes (length (text_of f)) = a ∙ ap formula.printed_of e in
+    let q : Ok n ≡ Ok (length (text_of f)) = a ∙ ap formula.printed_of e in
     record { tree = f; listed = y; alone = λ g z. single g f z y; count = (let z : n ≡ length (text_of f) = cc in z); filled = s ∙ ap (λ (x : formula.Outcome). formula.space_after text_of x before) e }
 
 pub printed_once : PrintedOnce
@@ -83,14 +85,14 @@ printed_once = (
   λ nodes k before after n p. printed_of_lem (formula.YieldsPart nodes k) (yields_part_one nodes k) before after n p.outcome p.comes p.answer p.space,
 )
 
-unprinted : (IsOf : Formula → Type 0) (before after : List ℕ) (n : ℕ) (o : formula.Outcome) → formula.Prints IsOf (length before) o → printed.Refused n ≡ formula.printed_of o → after ≡ formula.space_after text_of o before
-    → (((n ≡ 24) × (length before < most_formula)) ⊎ ((n ≡ 20) × (most_formula ≤ length before) × ((f : Formula) → IsOf f → ⊥))) × (after ≡ before)
-unprinted IsOf before after n o (formula.Prints.tight h e) a s = let q : printed.Refused n ≡ printed.Refused 24 = a ∙ ap formula.printed_of e in (inl ((let z : n ≡ 24 = cc in z), h), s ∙ ap (λ (x : formula.Outcome). formula.space_after text_of x before) e)
-unprinted IsOf before after n o (formula.Prints.unyielded h k e) a s = let q : printed.Refused n ≡ printed.Refused 20 = a ∙ ap formula.printed_of e in (inr ((let z : n ≡ 20 = cc in z), h, k), s ∙ ap (λ (x : formula.Outcome). formula.space_after text_of x before) e)
-unprinted IsOf before after n o (formula.Prints.prints h f y e) a s = let q : printed.Refused n ≡ printed.Bytes (length (text_of f)) = a ∙ ap formula.printed_of e in absurd (let z : ◌≡◌ {A = ℕ} 0 1 = cc in omega arith)
+unprinted : (IsOf : Formula → Type 0) (before after : List ℕ) (e : Refusal) (o : formula.Outcome) → formula.Prints IsOf (length before) o → Err e ≡ formula.printed_of o → after ≡ formula.space_after text_of o before
+    → (((e ≡ TableSpace) × (length before < most_formula)) ⊎ ((e ≡ FormulaForm) × (most_formula ≤ length before) × ((f : Formula) → IsOf f → ⊥))) × (after ≡ before)
+unprinted IsOf before after e o (formula.Prints.tight h c) a s = let q : Err e ≡ Err TableSpace = a ∙ ap formula.printed_of c in (inl ((let z : e ≡ TableSpace = cc in z), h), s ∙ ap (λ (x : formula.Outcome). formula.space_after text_of x before) c)
+unprinted IsOf before after e o (formula.Prints.unyielded h k c) a s = let q : Err e ≡ Err FormulaForm = a ∙ ap formula.printed_of c in (inr ((let z : e ≡ FormulaForm = cc in z), h, k), s ∙ ap (λ (x : formula.Outcome). formula.space_after text_of x before) c)
+unprinted IsOf before after e o (formula.Prints.prints h f y c) a s = let q : Err e ≡ Ok (length (text_of f)) = a ∙ ap formula.printed_of c in absurd (let z : ◌≡◌ {A = ℕ} 0 1 = cc in omega arith)
 
 pub printing_refused : PrintingRefused
-printing_refused IsOf before after n p = unprinted IsOf before after n p.outcome p.comes p.answer p.space
+printing_refused IsOf before after e p = unprinted IsOf before after e p.outcome p.comes p.answer p.space
 
 pub one_formula_printed : OneFormulaPrinted
 one_formula_printed nodes before after after' r r' p q = formula_printed_one nodes p q

@@ -1,5 +1,9 @@
 -- The nights: a case of judging by computing the refusal and the row, a text by computing what it holds and prints, a path case by the run that
 -- is computed from the walks.
+use Rattle.std.specs.Prelude.{Ok, Err}
+use Rattle.values.specs.Refusal as refusal
+use Rattle.values.specs.declared.refusal.Refusal.{Refusal}
+use Rattle.values.specs.declared.refusal.Refusal.TheVariants.{Operand, UnnamedAtom}
 use mathlib.Core.Path.{◌≡◌, refl, sym, ap, ◌∙◌, subst}
 use Prim.Native.Nat.{ℕ, ◌≤◌, ◌<◌}
 use mathlib.Core.List.{List, [], ◌∷◌}
@@ -11,9 +15,8 @@ use Rattle.values.specs.Answers.{verdict}
 use Rattle.values.specs.Rows.{most_verdicts, row_begin}
 use Rattle.model.specs.Model.{Model, as_model, node_count}
 use Rattle.model.specs.Refusals.{judge_refusal}
-use Rattle.ctl.specs.Answers.{Judging, number_due}
+use Rattle.ctl.specs.Answers.{Judged, Judging, number_due}
 use Rattle.ctl.specs.Rows.{model_verdict, rows_of}
-use Rattle.ctl.specs.declared.Judged.TheVariants.{Refused, Verdicts}
 use Rattle.paths.specs.Questions.{Question}
 use Rattle.paths.specs.Refusals.{first_causes}
 use Rattle.paths.specs.Runs.{Roomy, Run}
@@ -26,7 +29,7 @@ use Rattle.model.proofs.Fine.{more_room}
 use Rattle.paths.proofs.Gathering.{shortest_upto}
 use Rattle.paths.proofs.Room.{shortest_few}
 use Rattle.paths.proofs.Running.{computed_run}
-use Rattle.promises.proofs.Accepted.{accepted_verdict, refused_number, rows_stand}
+use Rattle.promises.proofs.Accepted.{accepted_verdict, refused_answer, rows_stand}
 use Rattle.sheet.proofs.Meaning.{answer_shown, model_number}
 use Rattle.values.proofs.StoredRows.{space_within}
 use Rattle.text.specs.Answers as reading
@@ -67,18 +70,18 @@ taken m before = numbered m before 0
 pub row_holds : (m : Model) (k : ℕ) (values : List ℕ) → judge_refusal m (size m) ≡ 0 → k < node_count m.nodes → get_or (rows_of m) k [] ≡ values → Holds (Case.row m k values)
 row_holds m k values z l e before after r h p =
     let none = taken m before z h in
-    let v : r ≡ Verdicts (verdict (model_verdict m)) = accepted_verdict m before after r p none in
-    let q : Judging m before after (Verdicts (verdict (model_verdict m))) = subst (Judging m before after) v p in
+    let v : r ≡ Ok (verdict (model_verdict m)) = accepted_verdict m before after r p none in
+    let q : Judging m before after (Ok (verdict (model_verdict m))) = subst (Judging m before after) v p in
     (λ n w. differs n (sym v ∙ w), (row_held m before none after (rows_stand m before after (verdict (model_verdict m)) q) k l).1 ∙ e)
   where
-    differs : (n : ℕ) → Verdicts (verdict (model_verdict m)) ≡ Refused n → ⊥
-    differs n w = let z : ◌≡◌ {A = ℕ} 0 1 = cc in omega arith
+    differs : (n : Refusal) → ◌≡◌ {A = Judged} (Ok (verdict (model_verdict m))) (Err n) → ⊥
+    differs n w = cc
 
 model_holds : (m : Model) (v : ℕ) → judge_refusal m (size m) ≡ 0 → model_verdict m ≡ v → Holds (Case.model m v)
-model_holds m v z e before after r h p = accepted_verdict m before after r p (taken m before z h) ∙ ap (λ (x : ℕ). Verdicts (verdict x)) e
+model_holds m v z e before after r h p = accepted_verdict m before after r p (taken m before z h) ∙ ap (λ (x : ℕ). Ok (verdict x)) e
 
-pub refused_holds : (m : Model) (n : ℕ) → judge_refusal m (size m) ≡ n → (n ≡ 0 → ⊥) → Holds (Case.refused m n)
-refused_holds m n e some before after r h p = refused_number m before after r n p (numbered m before n e h) some
+pub refused_holds : (m : Model) (e : Refusal) → judge_refusal m (size m) ≡ refusal.number_of e → Holds (Case.refused m e)
+refused_holds m e q before after r h p = refused_answer m before after r e p (numbered m before (refusal.number_of e) q h)
 
 text_holds : (text out : List ℕ) (m : Model) → text_outcome text ≡ Outcome.model m → judge_refusal m (size m) ≡ 0 → size m ≤ most_verdicts → bytes_of (whole (rows_of m) (model_verdict m)) ≡ out → Holds (Case.text text out)
 text_holds text out m reads z fits prints before after r h p =
@@ -178,17 +181,17 @@ besides = (
               (
                 model_holds (last_node _) 0 refl refl,
                 (
-                  refused_holds (last_node _) 12 refl (λ e. omega arith),
+                  refused_holds (last_node _) Operand refl,
                   (
-                    refused_holds (last_node _) 12 refl (λ e. omega arith),
+                    refused_holds (last_node _) Operand refl,
                     (
-                      refused_holds (last_node _) 12 refl (λ e. omega arith),
+                      refused_holds (last_node _) Operand refl,
                       (
-                        refused_holds (last_node _) 12 refl (λ e. omega arith),
+                        refused_holds (last_node _) Operand refl,
                         (
-                          refused_holds (after_first _) 22 refl (λ e. omega arith),
+                          refused_holds (after_first _) UnnamedAtom refl,
                           (
-                            refused_holds (after_first _) 22 refl (λ e. omega arith),
+                            refused_holds (after_first _) UnnamedAtom refl,
                             (
                               model_holds (after_first _) 2 refl refl,
                               tt,

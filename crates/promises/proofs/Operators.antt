@@ -1,4 +1,4 @@
--- The operators of request 4, from the laws of judging.
+-- The operators beside E and A, from the laws of judging.
 use mathlib.Core.Path.{refl}
 use mathlib.Core.Bool.{true, false}
 use Rattle.model.specs.Model.{kind_at}

@@ -1,4 +1,7 @@
--- Demand 3, from the laws of the path calls and of judging.
+-- What is promised of paths, from the laws of the path calls and of judging.
+use Rattle.std.specs.Prelude.{Some, None, Ok}
+use mathlib.Core.Bool.{true, false}
+use Rattle.paths.specs.Answers.{FirstAnswer}
 use mathlib.Core.Path.{◌≡◌, refl, sym, ap, ap₂, subst, ◌∙◌}
 use Prim.Native.Nat.{ℕ, ◌≤◌, ◌<◌}
 use mathlib.Core.List.{List}
@@ -16,9 +19,6 @@ use Rattle.kripke.specs.Until.{everywhere, opposite, until}
 use Rattle.kripke.proofs.Opposites.{opposite_valid, opposite_values}
 use Rattle.model.specs.Model.{Model, left_at, node_count, right_at}
 use Rattle.ctl.specs.Answers.{Judging}
-use Rattle.ctl.specs.declared.Judged.TheVariants.{Verdicts}
-use Rattle.paths.specs.declared.FirstAnswer.{FirstAnswer}
-use Rattle.paths.specs.declared.FirstAnswer.TheVariants as first
 use Rattle.paths.specs.Questions.{Question, asked}
 use Rattle.paths.specs.Answers.{FirstPromise}
 use Rattle.paths.specs.Runs.{RoomFor}
@@ -87,10 +87,10 @@ pub one_check : OneCheck
 one_check = check_one
 
 -- First on a question whose rows are rows, of a node whose value is their until
-tells : (m : Model) (before after : List ℕ) (v : Verdict) → Judging m before after (Verdicts v) → (left right : List ℕ) (s level value : ℕ) → s < m.states → bad_row m.states left ≡ false → bad_row m.states right ≡ false
+tells : (m : Model) (before after : List ℕ) (v : Verdict) → Judging m before after (Ok v) → (left right : List ℕ) (s level value : ℕ) → s < m.states → bad_row m.states left ≡ false → bad_row m.states right ≡ false
     → (level ≡ 1) ⊎ (level ≡ 2) → value ≡ until false m.transitions (row_values m.states left) (row_values m.states right) m.states s
     → (space space' : List ℕ) (a : FirstAnswer) → RoomFor (asked m.states m.transitions left right level) s space → FirstPromise (asked m.states m.transitions left right level) s space space' a
-    → (level ≤ value → (n : ℕ) × (a ≡ first.Path n)) × (value < level → a ≡ first.None)
+    → (level ≤ value → (n : ℕ) × (a ≡ Ok (Some n))) × (value < level → a ≡ (Ok None))
 tells m before after v p left right s level value h l r lev e space space' a room f =
     let q : Question = asked m.states m.transitions left right level in
     let taken = fine_question m.states m.transitions left right level s (judge_fine m (length before) (number_none m before after v p)).table l r lev h in
@@ -99,7 +99,7 @@ tells m before after v p left right s level value h l r lev e space space' a roo
     (λ reached. d.0 (link.1 (subst (λ (x : ℕ). level ≤ x) e reached)), λ missed. d.1 (λ w. omega (arith, link.0 w, e)))
 
 -- the row of a node stands in the space as one
-pub stands : (m : Model) (before after : List ℕ) (v : Verdict) → Judging m before after (Verdicts v) → (k : ℕ) → k < node_count m.nodes → bad_row m.states (row_in m.states after k) ≡ false
+pub stands : (m : Model) (before after : List ℕ) (v : Verdict) → Judging m before after (Ok v) → (k : ℕ) → k < node_count m.nodes → bad_row m.states (row_in m.states after k) ≡ false
 stands m before after v p k h = (row_held m before (number_none m before after v p) after (rows_stand m before after v p) k h).0
 
 pub first_exactly : FirstExactly

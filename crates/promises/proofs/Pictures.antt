@@ -1,5 +1,7 @@
--- Request 7, from the laws of pictures and of judging.
-use mathlib.Core.Path.{◌≡◌, refl, sym, ap, ap₂, ◌∙◌}
+-- What is promised of pictures, from the laws of pictures and of judging.
+use Rattle.std.specs.Prelude.{Some, None, Ok}
+use mathlib.Core.Bool.{true, false}
+use mathlib.Core.Path.{◌≡◌, sym, ap, ap₂, ◌∙◌}
 use Prim.Native.Nat.{ℕ, ◌≤◌, ◌<◌}
 use mathlib.Core.List.{List}
 use mathlib.Core.Bool.{true, false}
@@ -16,13 +18,10 @@ use Rattle.kripke.proofs.Reading.{not_15, question_fine}
 use Rattle.model.specs.Model.{Model, left_at, right_at}
 use Rattle.model.proofs.Fine.{judge_fine}
 use Rattle.ctl.specs.Answers.{Judging}
-use Rattle.ctl.specs.declared.Judged.TheVariants.{Verdicts}
 use Rattle.ctl.proofs.Held.{always_held, eventually_held, until_held}
 use Rattle.pictures.specs.declared.Ending.{Ending}
-use Rattle.pictures.specs.declared.PictureAnswer.{PictureAnswer}
-use Rattle.pictures.specs.declared.PictureAnswer.TheVariants as picture
 use Rattle.pictures.specs.Pictures.{asked}
-use Rattle.pictures.specs.Answers.{PicturePromise}
+use Rattle.pictures.specs.Answers.{PictureAnswer, PicturePromise}
 use Rattle.pictures.proofs.Exists.{false_pictured, pictured_exactly_lem}
 use Rattle.pictures.proofs.Handed.{handed_passes_lem, passes_exactly_lem, picture_or_none}
 use Rattle.pictures.proofs.OneAnswer.{check_one, picture_kind}
@@ -46,12 +45,12 @@ pub one_picture_check : OnePictureCheck
 one_picture_check = check_one
 
 -- a picture on a question whose rows are rows, of a judged model
-tells : (m : Model) (before after : List ℕ) (v : Verdict) → Judging m before after (Verdicts v) → (left right : List ℕ) (s : ℕ) → s < m.states → bad_row m.states left ≡ false → bad_row m.states right ≡ false
+tells : (m : Model) (before after : List ℕ) (v : Verdict) → Judging m before after (Ok v) → (left right : List ℕ) (s : ℕ) → s < m.states → bad_row m.states left ≡ false → bad_row m.states right ≡ false
     → (space space' : List ℕ) (a : PictureAnswer) → m.states ≤ length space → PicturePromise (asked m.states m.transitions left right) s space space' a
-    → (until true m.transitions (row_values m.states left) (row_values m.states right) m.states s ≡ 0 → (n : ℕ) × (e : Ending) × (a ≡ picture.Picture n e)) × ((until true m.transitions (row_values m.states left) (row_values m.states right) m.states s ≡ 0 → ⊥) → a ≡ picture.None)
+    → (until true m.transitions (row_values m.states left) (row_values m.states right) m.states s ≡ 0 → (n : ℕ) × (e : Ending) × (a ≡ Ok (Some (n, e)))) × ((until true m.transitions (row_values m.states left) (row_values m.states right) m.states s ≡ 0 → ⊥) → a ≡ Ok None)
 tells m before after v p left right s h l r space space' a room f =
     let fine = question_fine m.states m.transitions left right (judge_fine m (length before) (number_none m before after v p)).table l r in
-    picture_or_none (asked m.states m.transitions left right) s space space' a (not_15 m.states m.transitions left right (leb m.states s) 0 (sym fine) refl (lt-leb m.states s h)) room f
+    picture_or_none (asked m.states m.transitions left right) s space space' a (not_15 m.states m.transitions left right (leb m.states s) fine (lt-leb m.states s h)) room f
 
 pub picture_exactly : PictureExactly
 picture_exactly m before after v p k s t six space space' a room f =

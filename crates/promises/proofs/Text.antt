@@ -1,4 +1,4 @@
--- Demand 1 for text, cited from the crates that prove it.
+-- The promises of text, cited from the crates that prove it.
 use Rattle.promises.specs.Text.{TextRefusalKeeps, TextNumber, TextNumbers, FormIsPrint, PrintIsRead, PrintFits, ReadIsPrint, OneReading, OneLine, LinesFit, LinesReach, OneListing, OneSheet, OneSheetLine, SheetRefusal, SheetNumbers, SheetMeaning}
 use Rattle.form.proofs.Printed.{well_formed, formed_well}
 use Rattle.text.proofs.Promised.{refusal_leaves, print_read, read_print, one_answer}

@@ -1,4 +1,4 @@
--- Demand 2: the rows are the meaning, and one relational argument for each of range, settling and no-unknown.
+-- The rows are the meaning, and one relational argument for each of range, settling and no-unknown.
 use mathlib.Core.Path.{◌≡◌, refl, sym, ap, ◌∙◌, subst, subst₂}
 use Prim.Native.Nat.{ℕ, zero, suc, ◌≤◌, ◌<◌}
 use mathlib.Core.List.{List, []}

@@ -1,5 +1,5 @@
 -- Formulas as people write them: which texts are accepted and as what, and what an asked formula is answered.
-use Rattle.std.specs.Prelude.{◌≡◌, ℕ, suc, ◌*◌, ◌<◌, ◌≤◌, List, [], ◌∷◌, ◌⊎◌, length, take, get_or}
+use Rattle.std.specs.Prelude.{◌≡◌, ℕ, suc, ◌*◌, ◌<◌, ◌≤◌, List, [], ◌∷◌, ◌⊎◌, Result, Ok, Err, length, take, get_or}
 use Rattle.lists.specs.Rows.{fill}
 use Rattle.values.specs.Limits.{most_formula, most_nodes, most_node_numbers}
 use Rattle.values.specs.Rows.{most_verdicts}
@@ -10,10 +10,8 @@ use Rattle.formula.specs.Text.{text_of}
 use Rattle.formula.specs.Nodes.{nodes_of}
 use Rattle.formula.specs.Meaning.{value_row}
 use Rattle.formula.specs.Answers.{Spells, Accepted, FormulaRead, ReadAs, Yields, YieldsPart, FormulaPrinted, PrintedOf}
-use Rattle.formula.specs.declared.Read.{Read}
-use Rattle.formula.specs.declared.Read.TheVariants as read
-use Rattle.formula.specs.declared.Printed.{Printed}
-use Rattle.formula.specs.declared.Printed.TheVariants as printed
+use Rattle.values.specs.declared.refusal.Refusal.{Refusal}
+use Rattle.values.specs.declared.refusal.Refusal.TheVariants.{NodeList, FormulaForm, TableSpace}
 use Rattle.text.specs.Answers.{Outcome, text_outcome}
 use Rattle.answer.specs.Lines.{answer_line, row_line, model_line}
 use Rattle.answer.specs.Answers.Due.{line}
@@ -28,46 +26,46 @@ use Rattle.promises.specs.Nights.{bytes_of, joined, input}
 -- "The accepted texts are exactly the grammar's within those two limits": what is accepted is the text of a formula within them, with its size
 -- in the answer and its nodes in the front of the space;
 abbrev pub AcceptedIsText : Type 0
-AcceptedIsText = (text before after : List ℕ) (n : ℕ) → FormulaRead text before after (read.Nodes n) → ReadAs text before after n
+AcceptedIsText = (text before after : List ℕ) (n : ℕ) → FormulaRead text before after (Ok n) → ReadAs text before after n
 
 -- and the text of each formula within them is accepted, as that.
 abbrev pub TextIsAccepted : Type 0
 TextIsAccepted =
-    (f : Formula) (before after : List ℕ) (r : Read) → Accepted f → most_node_numbers ≤ length before → FormulaRead (text_of f) before after r
-    → (r ≡ read.Nodes (size f)) × (after ≡ fill (nodes_of f) before)
+    (f : Formula) (before after : List ℕ) (r : Result ℕ Refusal) → Accepted f → most_node_numbers ≤ length before → FormulaRead (text_of f) before after r
+    → (r ≡ Ok (size f)) × (after ≡ fill (nodes_of f) before)
 
 -- "With one reading each": two formulas with the same text are one.
 abbrev pub OneReadingEach : Type 0
 OneReadingEach = (f g : Formula) → Named f → Named g → text_of f ≡ text_of g → f ≡ g
 
--- why a text is refused, by the number: 24 comes first, then 20, and 10 after 20
-abbrev pub RefusedBecause : List ℕ → ℕ → ℕ → Type 0
-RefusedBecause text room n =
-    ((n ≡ 24) × (room < most_node_numbers))
-    ⊎ ((n ≡ 20) × (most_node_numbers ≤ room) × ((f : Formula) → Spells text f → ⊥))
-    ⊎ ((n ≡ 10) × (most_node_numbers ≤ room) × ((f : Formula) × Spells text f × (most_nodes < size f)))
+-- why a text is refused: the short space comes first, then the form, and the count of nodes after the form
+abbrev pub RefusedBecause : List ℕ → ℕ → Refusal → Type 0
+RefusedBecause text room e =
+    ((e ≡ TableSpace) × (room < most_node_numbers))
+    ⊎ ((e ≡ FormulaForm) × (most_node_numbers ≤ room) × ((f : Formula) → Spells text f → ⊥))
+    ⊎ ((e ≡ NodeList) × (most_node_numbers ≤ room) × ((f : Formula) × Spells text f × (most_nodes < size f)))
 
 -- A refusal of reading has its cause, and leaves the node space.
 abbrev pub ReadingRefused : Type 0
-ReadingRefused = (text before after : List ℕ) (n : ℕ) → FormulaRead text before after (read.Refused n) → RefusedBecause text (length before) n × (after ≡ before)
+ReadingRefused = (text before after : List ℕ) (e : Refusal) → FormulaRead text before after (Err e) → RefusedBecause text (length before) e × (after ≡ before)
 
 -- "Printing a list so made gives back the text": of whatever reading accepted, the list that it left prints as the text that was read.
 abbrev pub PrintedBack : Type 0
 PrintedBack =
-    (text nodes nodes' : List ℕ) (n : ℕ) (before after : List ℕ) (r : Printed) → FormulaRead text nodes nodes' (read.Nodes n) → most_formula ≤ length before
-    → FormulaPrinted (Yields (take (3 * n) nodes')) before after r → (r ≡ printed.Bytes (length text)) × (after ≡ fill text before)
+    (text nodes nodes' : List ℕ) (n : ℕ) (before after : List ℕ) (r : Result ℕ Refusal) → FormulaRead text nodes nodes' (Ok n) → most_formula ≤ length before
+    → FormulaPrinted (Yields (take (3 * n) nodes')) before after r → (r ≡ Ok (length text)) × (after ≡ fill text before)
 
 -- What prints is the list of exactly one accepted formula, or its part,
 abbrev pub PrintedOnce : Type 0
 PrintedOnce =
-    ((nodes before after : List ℕ) (n : ℕ) → FormulaPrinted (Yields nodes) before after (printed.Bytes n) → PrintedOf (Yields nodes) before after n)
-    × ((nodes : List ℕ) (k : ℕ) (before after : List ℕ) (n : ℕ) → FormulaPrinted (YieldsPart nodes k) before after (printed.Bytes n) → PrintedOf (YieldsPart nodes k) before after n)
+    ((nodes before after : List ℕ) (n : ℕ) → FormulaPrinted (Yields nodes) before after (Ok n) → PrintedOf (Yields nodes) before after n)
+    × ((nodes : List ℕ) (k : ℕ) (before after : List ℕ) (n : ℕ) → FormulaPrinted (YieldsPart nodes k) before after (Ok n) → PrintedOf (YieldsPart nodes k) before after n)
 
--- and what doesn't has its cause, 24 before 20, and the text space stays.
+-- and what doesn't has its cause, the short space before the form, and the text space stays.
 abbrev pub PrintingRefused : Type 1
 PrintingRefused =
-    (IsOf : Formula → Type 0) (before after : List ℕ) (n : ℕ) → FormulaPrinted IsOf before after (printed.Refused n)
-    → (((n ≡ 24) × (length before < most_formula)) ⊎ ((n ≡ 20) × (most_formula ≤ length before) × ((f : Formula) → IsOf f → ⊥))) × (after ≡ before)
+    (IsOf : Formula → Type 0) (before after : List ℕ) (e : Refusal) → FormulaPrinted IsOf before after (Err e)
+    → (((e ≡ TableSpace) × (length before < most_formula)) ⊎ ((e ≡ FormulaForm) × (most_formula ≤ length before) × ((f : Formula) → IsOf f → ⊥))) × (after ≡ before)
 
 -- Any two answers that printing may give coincide, of a list and of one of its nodes, and so does the space.
 abbrev pub OneFormulaPrinted : Type 0

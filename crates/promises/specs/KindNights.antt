@@ -1,6 +1,7 @@
 -- Cases of or, implies, AX, EF, AF, EG, AG that a wrong reading would break.
 use Rattle.std.specs.Prelude.{ℕ, List, [], ◌∷◌}
 use Rattle.lists.specs.Entries.{All}
+use Rattle.values.specs.declared.refusal.Refusal.TheVariants.{Kind, Operand}
 use Rattle.model.specs.Model.{Model, as_model}
 use Rattle.promises.specs.Nights.{Case, row, refused, Holds, last_node}
 
@@ -28,9 +29,9 @@ kinds =
     ∷ row joining 3 (0 ∷ 1 ∷ [])
     ∷ row joining 4 (2 ∷ 2 ∷ [])
     -- 13 is the greatest kind; AX leaves its right number, or uses it
-    ∷ refused (last_node (14 ∷ 0 ∷ 0 ∷ [])) 11
-    ∷ refused (last_node (9 ∷ 0 ∷ 1 ∷ [])) 12
-    ∷ refused (last_node (7 ∷ 0 ∷ 1 ∷ [])) 12
+    ∷ refused (last_node (14 ∷ 0 ∷ 0 ∷ [])) Kind
+    ∷ refused (last_node (9 ∷ 0 ∷ 1 ∷ [])) Operand
+    ∷ refused (last_node (7 ∷ 0 ∷ 1 ∷ [])) Operand
     ∷ []
 
 -- every one of them holds

@@ -1,23 +1,27 @@
--- Labels made from measurements, request 3. The statements speak of what `label`, `label_delay`, `delay` and `label_line` promise.
-use Rattle.std.specs.Prelude.{◌≡◌, ℕ, ◌≤◌, ◌<◌, List, [], ◌∷◌, true, false, cond, ℤ, pos, negsuc, ◌+ℤ◌, Float}
+-- Labels made from measurements. The statements speak of what `label`, `label_delay`, `delay` and `label_line` promise.
+use Rattle.std.specs.Prelude.{◌≡◌, ℕ, ◌≤◌, ◌<◌, List, [], ◌∷◌, true, false, cond, ℤ, pos, negsuc, ◌+ℤ◌, Float, Result, Ok, Err}
 use Rattle.std.specs.Int.Signed.{le_z}
 use Rattle.std.specs.Float.{nan}
 use Rattle.std.specs.Float.Ieee.{le}
 use Rattle.lists.specs.Entries.{All}
 use Rattle.values.specs.Answers.{verdict}
-use Rattle.readings.specs.declared.Labelled.{Labelled}
-use Rattle.readings.specs.declared.Labelled.TheVariants.{Is, Refused}
+use Rattle.values.specs.declared.refusal.Refusal.{Refusal}
+use Rattle.values.specs.declared.refusal.Refusal.TheVariants as refusal
+use Rattle.values.specs.declared.verdict.Verdict.{Verdict}
 use Rattle.readings.specs.declared.voltages.Reading.{Reading}
-use Rattle.readings.specs.declared.voltages.Gate.{Gate}
-use Rattle.readings.specs.declared.delays.DelayGate.{DelayGate}
+use Rattle.readings.specs.declared.gate.Gate.{Gate}
 use Rattle.readings.specs.Gates.{sound, inside}
 use Rattle.readings.specs.Delays.{Delay, turn, mod_turn}
-use Rattle.readings.specs.Answers.{voltage_limits, delay_limits, voltage_label, delay_label}
+use Rattle.readings.specs.Answers.{voltage_label, delay_label}
 use Rattle.labelling.specs.Answers.{LineLabelled}
+
+-- what a gate makes of a measurement: a label, or a refusal
+abbrev pub Labelled : Type 0
+Labelled = Result Verdict Refusal
 
 -- a label by its number
 abbrev pub label_of : ℕ → Labelled
-label_of n = Is (verdict n)
+label_of n = Ok (verdict n)
 
 -- a value that a reading leaves possible
 abbrev pub Possible : Reading → Float → Type 0
@@ -27,20 +31,20 @@ Possible r v = (le r.least v ≡ true) × (le v r.greatest ≡ true)
 abbrev pub Whole : Reading → Type 0
 Whole r = le r.least r.greatest ≡ true
 
-abbrev pub Sound : Gate → Type 0
-Sound g = sound le (voltage_limits g) ≡ true
+abbrev pub Sound : Gate Float → Type 0
+Sound g = sound le g ≡ true
 
 -- "True if the whole reading lies in the gate": exactly if every possible value lies in it, ends included.
 abbrev pub TrueIsInside : Type 0
-TrueIsInside = (r : Reading) (g : Gate) → Sound g → Whole r
-    → (voltage_label r g ≡ label_of 2 → (v : Float) → Possible r v → inside le (voltage_limits g) v ≡ true)
-    × (((v : Float) → Possible r v → inside le (voltage_limits g) v ≡ true) → voltage_label r g ≡ label_of 2)
+TrueIsInside = (r : Reading) (g : Gate Float) → Sound g → Whole r
+    → (voltage_label r g ≡ label_of 2 → (v : Float) → Possible r v → inside le g v ≡ true)
+    × (((v : Float) → Possible r v → inside le g v ≡ true) → voltage_label r g ≡ label_of 2)
 
 -- "False if it lies wholly outside": exactly if no possible value lies in it.
 abbrev pub FalseIsOutside : Type 0
-FalseIsOutside = (r : Reading) (g : Gate) → Sound g → Whole r
-    → (voltage_label r g ≡ label_of 0 → (v : Float) → Possible r v → inside le (voltage_limits g) v ≡ false)
-    × (((v : Float) → Possible r v → inside le (voltage_limits g) v ≡ false) → voltage_label r g ≡ label_of 0)
+FalseIsOutside = (r : Reading) (g : Gate Float) → Sound g → Whole r
+    → (voltage_label r g ≡ label_of 0 → (v : Float) → Possible r v → inside le g v ≡ false)
+    × (((v : Float) → Possible r v → inside le g v ≡ false) → voltage_label r g ≡ label_of 0)
 
 -- "Otherwise unknown": a sound gate gives a label and no other number.
 pub record LabelGiven (a : Labelled) : Type 0 where
@@ -49,17 +53,17 @@ pub record LabelGiven (a : Labelled) : Type 0 where
   pub range : value ≤ 2
 
 abbrev pub SoundIsLabelled : Type 0
-SoundIsLabelled = (r : Reading) (g : Gate) → Sound g → LabelGiven (voltage_label r g)
+SoundIsLabelled = (r : Reading) (g : Gate Float) → Sound g → LabelGiven (voltage_label r g)
 
 -- "A reading with a NaN or with its ends crossed is unknown."
 abbrev pub BrokenIsUnknown : Type 0
-BrokenIsUnknown = (r : Reading) (g : Gate) → Sound g → le r.least r.greatest ≡ false → voltage_label r g ≡ label_of 1
+BrokenIsUnknown = (r : Reading) (g : Gate Float) → Sound g → le r.least r.greatest ≡ false → voltage_label r g ≡ label_of 1
 
--- "A gate with a NaN or crossed limits is refused with 21, whatever the reading", and only then.
+-- "A gate with a NaN or crossed limits is refused as such, with 21, whatever the reading", and only then.
 abbrev pub GateRefused : Type 0
-GateRefused = (r : Reading) (g : Gate)
-    → (sound le (voltage_limits g) ≡ false → voltage_label r g ≡ Refused 21)
-    × ((n : ℕ) → voltage_label r g ≡ Refused n → (n ≡ 21) × (sound le (voltage_limits g) ≡ false))
+GateRefused = (r : Reading) (g : Gate Float)
+    → (sound le g ≡ false → voltage_label r g ≡ Err refusal.Gate)
+    × ((e : Refusal) → voltage_label r g ≡ Err e → (e ≡ refusal.Gate) × (sound le g ≡ false))
 
 -- That a value isn't at most itself says that it is a NaN, and nothing is at most a NaN, nor a NaN at most anything.
 abbrev pub NanAlone : Type 0
@@ -72,15 +76,15 @@ pub record Narrower (r narrower : Reading) : Type 0 where
   pub greatest : le narrower.greatest r.greatest ≡ true
 
 abbrev pub NarrowerKeeps : Type 0
-NarrowerKeeps = (r narrower : Reading) (g : Gate) → Narrower r narrower → (n : ℕ) → (n ≡ 1 → ⊥) → voltage_label r g ≡ label_of n → voltage_label narrower g ≡ label_of n
+NarrowerKeeps = (r narrower : Reading) (g : Gate Float) → Narrower r narrower → (n : ℕ) → (n ≡ 1 → ⊥) → voltage_label r g ≡ label_of n → voltage_label narrower g ≡ label_of n
 
 -- A reading with equal ends, 0 and −0 among them, is never unknown; a NaN is equal to nothing.
 abbrev pub EqualEndsKnown : Type 0
-EqualEndsKnown = (r : Reading) (g : Gate) → Whole r → le r.greatest r.least ≡ true → voltage_label r g ≡ label_of 1 → ⊥
+EqualEndsKnown = (r : Reading) (g : Gate Float) → Whole r → le r.greatest r.least ≡ true → voltage_label r g ≡ label_of 1 → ⊥
 
--- The label of a delay is true or false: true exactly if it lies in the gate; crossed limits are refused with 21.
+-- The label of a delay is true or false: true exactly if it lies in the gate; crossed limits are refused.
 abbrev pub DelayKnown : Type 0
-DelayKnown = (d : ℤ) (g : DelayGate) → delay_label d g ≡ cond (sound le_z (delay_limits g)) (label_of (cond (inside le_z (delay_limits g) d) 2 0)) (Refused 21)
+DelayKnown = (d : ℤ) (g : Gate ℤ) → delay_label d g ≡ cond (sound le_z g) (label_of (cond (inside le_z g d) 2 0)) (Err refusal.Gate)
 
 -- Two counters have a delay, and one only; a turn more or less changes nothing modulo a turn.
 abbrev pub DelayThere : Type 0
@@ -121,9 +125,9 @@ line_nights =
     -- atmost=1e22 volts=-0,0.1
     ∷ line_night (97 ∷ 116 ∷ 109 ∷ 111 ∷ 115 ∷ 116 ∷ 61 ∷ 49 ∷ 101 ∷ 50 ∷ 50 ∷ 32 ∷ 118 ∷ 111 ∷ 108 ∷ 116 ∷ 115 ∷ 61 ∷ 45 ∷ 48 ∷ 44 ∷ 48 ∷ 46 ∷ 49 ∷ []) (label_of 2)
     -- between=2,1 volts=nan,inf
-    ∷ line_night (98 ∷ 101 ∷ 116 ∷ 119 ∷ 101 ∷ 101 ∷ 110 ∷ 61 ∷ 50 ∷ 44 ∷ 49 ∷ 32 ∷ 118 ∷ 111 ∷ 108 ∷ 116 ∷ 115 ∷ 61 ∷ 110 ∷ 97 ∷ 110 ∷ 44 ∷ 105 ∷ 110 ∷ 102 ∷ []) (Refused 21)
+    ∷ line_night (98 ∷ 101 ∷ 116 ∷ 119 ∷ 101 ∷ 101 ∷ 110 ∷ 61 ∷ 50 ∷ 44 ∷ 49 ∷ 32 ∷ 118 ∷ 111 ∷ 108 ∷ 116 ∷ 115 ∷ 61 ∷ 110 ∷ 97 ∷ 110 ∷ 44 ∷ 105 ∷ 110 ∷ 102 ∷ []) (Err refusal.Gate)
     -- atleast=4.75  volts=4.9,5.1
-    ∷ line_night (97 ∷ 116 ∷ 108 ∷ 101 ∷ 97 ∷ 115 ∷ 116 ∷ 61 ∷ 52 ∷ 46 ∷ 55 ∷ 53 ∷ 32 ∷ 32 ∷ 118 ∷ 111 ∷ 108 ∷ 116 ∷ 115 ∷ 61 ∷ 52 ∷ 46 ∷ 57 ∷ 44 ∷ 53 ∷ 46 ∷ 49 ∷ []) (Refused 19)
+    ∷ line_night (97 ∷ 116 ∷ 108 ∷ 101 ∷ 97 ∷ 115 ∷ 116 ∷ 61 ∷ 52 ∷ 46 ∷ 55 ∷ 53 ∷ 32 ∷ 32 ∷ 118 ∷ 111 ∷ 108 ∷ 116 ∷ 115 ∷ 61 ∷ 52 ∷ 46 ∷ 57 ∷ 44 ∷ 53 ∷ 46 ∷ 49 ∷ []) (Err refusal.TextForm)
     ∷ []
 
 -- Lines from their bytes, a double's own rounding among them.

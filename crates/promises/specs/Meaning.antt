@@ -1,4 +1,4 @@
--- Why walks of S states are enough: E and A say what endless paths say, and they are the least solutions of document 003's equations.
+-- Why walks of S states are enough: E and A say what endless paths say, and they are the least solutions of x = right or (left and EX x), for A with AX.
 use Rattle.std.specs.Prelude.{◌≡◌, ℕ, ◌<◌, ◌≤◌, Bool, true, false, ◌↔◌}
 use mathlib.Core.List.{List, Memᴰ}
 use Rattle.lists.specs.Entries.{at}

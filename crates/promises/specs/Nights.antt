@@ -1,12 +1,12 @@
 -- The eleven starred nights as one list of cases under one statement, and beside them cases that a wrong reading of the rules would break.
-use Rattle.std.specs.Prelude.{◌≡◌, ℕ, ◌≤◌, List, [], ◌∷◌, ◌++◌, length}
+use Rattle.std.specs.Prelude.{Ok, Err, ◌≡◌, ℕ, ◌≤◌, List, [], ◌∷◌, ◌++◌, length}
 use Rattle.lists.specs.Entries.{All}
 use Rattle.values.specs.Answers.{verdict}
+use Rattle.values.specs.declared.refusal.Refusal.{Refusal}
+use Rattle.values.specs.declared.refusal.Refusal.TheVariants.{Operand, UnnamedAtom}
 use Rattle.values.specs.Rows.{row_begin, row_in, row_values, most_verdicts}
 use Rattle.model.specs.Model.{Model, as_model, node_count}
-use Rattle.ctl.specs.Answers.{Judging}
-use Rattle.ctl.specs.declared.Judged.{Judged}
-use Rattle.ctl.specs.declared.Judged.TheVariants.{Verdicts, Refused}
+use Rattle.ctl.specs.Answers.{Judged, Judging}
 use Rattle.paths.specs.Questions.{Question, asked}
 use Rattle.paths.specs.Runs.{Run}
 use Rattle.answer.specs.Answers.{Due}
@@ -25,13 +25,13 @@ bytes_of [] = []
 bytes_of (Due.line bytes ∷ ds) = bytes ++ bytes_of ds
 bytes_of (Due.none ∷ ds) = bytes_of ds
 
--- a case: a text and its whole output; a model, one of its nodes and the row of it; a model and its verdict; a model and the number that
+-- a case: a text and its whole output; a model, one of its nodes and the row of it; a model and its verdict; a model and what
 -- refuses it; a path question with a start, and all its paths in order
 pub data Case : Type 0 where
   text : List ℕ → List ℕ → Case
   row : Model → ℕ → List ℕ → Case
   model : Model → ℕ → Case
-  refused : Model → ℕ → Case
+  refused : Model → Refusal → Case
   path : Question → ℕ → List (List ℕ) → Case
 
 -- what `judge` answers and leaves, lent any space that has room for the model's rows
@@ -41,9 +41,9 @@ Judges m Says = (before after : List ℕ) (r : Judged) → row_begin m.states (n
 -- a text is judged in a space for the largest model; a path case holds of whole runs, in any space with as many entries as there are states
 abbrev pub Holds : Case → Type 0
 Holds (text input out) = (before after : List ℕ) (r : Sheet) → most_verdicts ≤ length before → TextJudged input before after r → bytes_of (output r after) ≡ out
-Holds (row m k values) = Judges m (λ after r. ((n : ℕ) → r ≡ Refused n → ⊥) × (row_values m.states (row_in m.states after k) ≡ values))
-Holds (model m v) = Judges m (λ after r. r ≡ Verdicts (verdict v))
-Holds (refused m n) = Judges m (λ after r. r ≡ Refused n)
+Holds (row m k values) = Judges m (λ after r. ((e : Refusal) → r ≡ Err e → ⊥) × (row_values m.states (row_in m.states after k) ≡ values))
+Holds (model m v) = Judges m (λ after r. r ≡ Ok (verdict v))
+Holds (refused m e) = Judges m (λ after r. r ≡ Err e)
 Holds (path q start ps) = (space : List ℕ) → q.states ≤ length space → Run q start space ps
 
 -- the printed input of case 1
@@ -165,13 +165,13 @@ beside =
     -- the model's verdict is the last node's
     ∷ model (last_node (2 ∷ 0 ∷ 0 ∷ [])) 0
     -- an unused number is 0
-    ∷ refused (last_node (2 ∷ 0 ∷ 1 ∷ [])) 12
-    ∷ refused (last_node (4 ∷ 0 ∷ 1 ∷ [])) 12
-    ∷ refused (last_node (0 ∷ 1 ∷ 0 ∷ [])) 12
-    ∷ refused (last_node (1 ∷ 0 ∷ 1 ∷ [])) 12
+    ∷ refused (last_node (2 ∷ 0 ∷ 1 ∷ [])) Operand
+    ∷ refused (last_node (4 ∷ 0 ∷ 1 ∷ [])) Operand
+    ∷ refused (last_node (0 ∷ 1 ∷ 0 ∷ [])) Operand
+    ∷ refused (last_node (1 ∷ 0 ∷ 1 ∷ [])) Operand
     -- every atom is named by a node of its kind, and a not of node 1 doesn't name atom 1
-    ∷ refused (after_first []) 22
-    ∷ refused (after_first (0 ∷ 0 ∷ 0 ∷ 2 ∷ 1 ∷ 0 ∷ [])) 22
+    ∷ refused (after_first []) UnnamedAtom
+    ∷ refused (after_first (0 ∷ 0 ∷ 0 ∷ 2 ∷ 1 ∷ 0 ∷ [])) UnnamedAtom
     ∷ model (after_first (1 ∷ 1 ∷ 0 ∷ [])) 2
     ∷ []
 

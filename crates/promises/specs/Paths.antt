@@ -1,13 +1,14 @@
--- Demand 3. A run is First's answer and then Next's answers, the list lent to Next being exactly the entries given before; what each call
--- promises is named in the crate of the path calls, and so are question, witness, shortest and the order of lists.
+-- Shortest witness paths, one after the other. A run is First's answer and then Next's answers, the list lent to Next being exactly the
+-- entries given before; what each call promises is named in the crate of the path calls, and so are question, witness, shortest and the
+-- order of lists.
+use Rattle.std.specs.Prelude.{Some, None, Ok, Err}
+use Rattle.values.specs.declared.refusal.Refusal.{Refusal}
+use Rattle.values.specs.declared.refusal.Refusal.TheVariants.{PathSpace}
+use Rattle.paths.specs.declared.Further.TheVariants.{End}
+use Rattle.paths.specs.Answers.{FirstAnswer, NextAnswer, CheckAnswer}
 use Rattle.std.specs.Prelude.{◌≡◌, ℕ, ◌<◌, ◌≤◌, List, ◌++◌, ◌⊎◌, ◌↔◌, length}
 use Rattle.values.specs.Values.{neg}
 use Rattle.model.specs.Model.{Model, kind_at}
-use Rattle.paths.specs.declared.FirstAnswer.{FirstAnswer}
-use Rattle.paths.specs.declared.FirstAnswer.TheVariants as first
-use Rattle.paths.specs.declared.NextAnswer.{NextAnswer}
-use Rattle.paths.specs.declared.NextAnswer.TheVariants as next
-use Rattle.paths.specs.declared.CheckAnswer.{CheckAnswer}
 use Rattle.paths.specs.Questions.{Question, asked, Shortest, Witnessed, WitnessedWithin}
 use Rattle.paths.specs.Order.{Among, Ascending}
 use Rattle.paths.specs.Answers.{FirstPromise, NextPromise, CheckPromise}
@@ -26,7 +27,7 @@ EveryShortestPath =
 
 -- Wherever First refuses nothing the question and the space are such.
 abbrev pub RoomyThere : Type 0
-RoomyThere = (q : Question) (start : ℕ) (space after : List ℕ) (a : FirstAnswer) → FirstPromise q start space after a → ((n : ℕ) → a ≡ first.Refused n → ⊥) → Roomy q start space
+RoomyThere = (q : Question) (start : ℕ) (space after : List ℕ) (a : FirstAnswer) → FirstPromise q start space after a → ((e : Refusal) → a ≡ Err e → ⊥) → Roomy q start space
 
 -- "I can ask for a path and then the next one": what was handed out so far is always a beginning of that run,
 abbrev pub ChainIsBeginning : Type 0
@@ -38,11 +39,11 @@ BeginningIsChain = (q : Question) (start : ℕ) (space : List ℕ) (ps rest : Li
 
 -- Asking again after "end" gives "end", and the list stays.
 abbrev pub EndAgain : Type 0
-EndAgain = (q : Question) (p after again : List ℕ) (a : NextAnswer) → NextPromise q p after next.End → NextPromise q after again a → (a ≡ next.End) × (again ≡ after)
+EndAgain = (q : Question) (p after again : List ℕ) (a : NextAnswer) → NextPromise q p after (Ok End) → NextPromise q after again a → (a ≡ Ok End) × (again ≡ after)
 
 -- With as many entries as there are states the space is always large enough, and 16 is never given.
 abbrev pub RoomEnough : Type 0
-RoomEnough = (q : Question) (start : ℕ) (space : List ℕ) → q.states ≤ length space → RoomFor q start space × ((after : List ℕ) → FirstPromise q start space after (first.Refused 16) → ⊥)
+RoomEnough = (q : Question) (start : ℕ) (space : List ℕ) → q.states ≤ length space → RoomFor q start space × ((after : List ℕ) → FirstPromise q start space after (Err PathSpace) → ⊥)
 
 -- A witness exists exactly if one does that has at most as many entries as there are states.
 abbrev pub FewEnough : Type 0
@@ -51,8 +52,8 @@ FewEnough = (q : Question) (start : ℕ) → Witnessed q start ↔ WitnessedWith
 -- "A refusal changes nothing we lent": neither First's path space nor the list that Next was lent.
 abbrev pub PathRefusalKeeps : Type 0
 PathRefusalKeeps =
-    ((q : Question) (start : ℕ) (before after : List ℕ) (n : ℕ) → FirstPromise q start before after (first.Refused n) → after ≡ before)
-    × ((q : Question) (before after : List ℕ) (n : ℕ) → NextPromise q before after (next.Refused n) → after ≡ before)
+    ((q : Question) (start : ℕ) (before after : List ℕ) (e : Refusal) → FirstPromise q start before after (Err e) → after ≡ before)
+    × ((q : Question) (before after : List ℕ) (e : Refusal) → NextPromise q before after (Err e) → after ≡ before)
 
 -- Any two answers that First may give coincide, and so do the spaces;
 abbrev pub OneFirst : Type 0
@@ -75,7 +76,7 @@ path_of rows m space k level = asked m.states m.transitions (rows m space k).lef
 abbrev pub FirstTells : ℕ → RowsOf → (ℕ → ℕ) → Type 0
 FirstTells kind rows value = Accepting (λ m before after v. (k s level : ℕ) → There m k s → kind_at m.nodes k ≡ kind → (level ≡ 1) ⊎ (level ≡ 2)
     → (space space' : List ℕ) (a : FirstAnswer) → RoomFor (path_of rows m after k level) s space → FirstPromise (path_of rows m after k level) s space space' a
-    → (level ≤ value (written m after k s) → (n : ℕ) × (a ≡ first.Path n)) × (value (written m after k s) < level → a ≡ first.None))
+    → (level ≤ value (written m after k s) → (n : ℕ) × (a ≡ Ok (Some n))) × (value (written m after k s) < level → a ≡ (Ok None)))
 
 -- "At the level 'true' there is a first path exactly when the verdict is true; at the level 'possible', exactly when it isn't false. Here the
 -- rows are the verdicts of the question's own two parts", "the room being large enough for a shortest one". Node k is E(left U right).

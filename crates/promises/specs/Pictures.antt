@@ -1,17 +1,16 @@
--- Request 7: why an A-until is false. What a picture is and what each call promises is named in the crate of pictures.
+-- Why an A-until is false. What a picture is and what each call promises is named in the crate of pictures.
+use Rattle.std.specs.Prelude.{Some, None, Ok}
+use mathlib.Core.Bool.{true}
+use Rattle.paths.specs.Answers.{CheckAnswer}
 use Rattle.std.specs.Prelude.{◌≡◌, ℕ, ◌<◌, ◌≤◌, List, ◌↔◌, length, take}
 use Rattle.lists.specs.Causes.{refusal_of}
 use Rattle.values.specs.Values.{top}
 use Rattle.kripke.specs.Transitions.{Graph}
 use Rattle.model.specs.Model.{Model, kind_at}
-use Rattle.paths.specs.declared.CheckAnswer.{CheckAnswer}
-use Rattle.paths.specs.declared.CheckAnswer.TheVariants as check
 use Rattle.pictures.specs.declared.Ending.{Ending}
-use Rattle.pictures.specs.declared.PictureAnswer.{PictureAnswer}
-use Rattle.pictures.specs.declared.PictureAnswer.TheVariants as picture
 use Rattle.pictures.specs.Pictures.{Question, asked, IsFalse, Picture, Pictured, PicturedWithin}
 use Rattle.pictures.specs.Refusals.{causes}
-use Rattle.pictures.specs.Answers.{PicturePromise, CheckPromise, SameKind}
+use Rattle.pictures.specs.Answers.{PictureAnswer, PicturePromise, CheckPromise, SameKind}
 use Rattle.promises.specs.Reasons.{RowsOf, of_parts, of_part, of_not}
 use Rattle.promises.specs.Verdicts.{Accepting, There, written}
 
@@ -21,11 +20,11 @@ PicturedExactly = (q : Question) (s : ℕ) → Graph q.states q.transitions → 
 
 -- A list passes the check exactly if it is a picture, the question not being refused.
 abbrev pub PassesExactly : Type 0
-PassesExactly = (q : Question) (path : List ℕ) (e : Ending) (a : CheckAnswer) → refusal_of (causes q) ≡ 0 → CheckPromise q path e a → (a ≡ check.Yes) ↔ Picture q path e
+PassesExactly = (q : Question) (path : List ℕ) (e : Ending) (a : CheckAnswer) → refusal_of (causes q) ≡ 0 → CheckPromise q path e a → (a ≡ Ok true) ↔ Picture q path e
 
 -- What is handed out passes the check.
 abbrev pub HandedPasses : Type 0
-HandedPasses = (q : Question) (start : ℕ) (before after : List ℕ) (n : ℕ) (e : Ending) (a : CheckAnswer) → PicturePromise q start before after (picture.Picture n e) → CheckPromise q (take n after) e a → a ≡ check.Yes
+HandedPasses = (q : Question) (start : ℕ) (before after : List ℕ) (n : ℕ) (e : Ending) (a : CheckAnswer) → PicturePromise q start before after (Ok (Some (n, e))) → CheckPromise q (take n after) e a → a ≡ (Ok true)
 
 -- "Which picture is chosen is free": any two answers are both a picture, or both "none", or both the same refusal, and where no picture is
 -- handed out the spaces coincide;
@@ -45,7 +44,7 @@ picture_of rows m space k = asked m.states m.transitions (rows m space k).left (
 abbrev pub PictureTells : ℕ → RowsOf → ℕ → Type 0
 PictureTells kind rows verdict = Accepting (λ m before after v. (k s : ℕ) → There m k s → kind_at m.nodes k ≡ kind
     → (space space' : List ℕ) (a : PictureAnswer) → m.states ≤ length space → PicturePromise (picture_of rows m after k) s space space' a
-    → (written m after k s ≡ verdict → (n : ℕ) × (e : Ending) × (a ≡ picture.Picture n e)) × ((written m after k s ≡ verdict → ⊥) → a ≡ picture.None))
+    → (written m after k s ≡ verdict → (n : ℕ) × (e : Ending) × (a ≡ Ok (Some (n, e)))) × ((written m after k s ≡ verdict → ⊥) → a ≡ Ok None))
 
 -- "One is handed out exactly if the verdict is false." Node k is A(left U right).
 abbrev pub PictureExactly : Type 0

@@ -1,5 +1,5 @@
--- Demand 1, for text: reading it, and writing the answer. What each call promises is named in its own crate.
-use Rattle.std.specs.Prelude.{◌≡◌, ℕ, ◌≤◌, false, ◌↔◌, length, replicate}
+-- What text is promised: reading it, and writing the answer. What each call promises is named in its own crate.
+use Rattle.std.specs.Prelude.{◌≡◌, ℕ, ◌≤◌, false, ◌↔◌, length, replicate, Result, Ok, Err}
 use mathlib.Core.List.{List, [], ◌∷◌, Memᴰ}
 use Rattle.lists.specs.Entries.{All}
 use Rattle.values.specs.Limits.{most_states, most_text}
@@ -11,9 +11,10 @@ use Rattle.form.specs.Readers.Reading.{found}
 use Rattle.form.specs.Form.{model_text}
 use Rattle.form.specs.Print.{print, Printable}
 use Rattle.text.specs.Answers as reading
-use Rattle.text.specs.Answers.{Tables, Outcome, any_short, text_outcome, outcome, number_of, tables_due, ModelRead, Accepted, refusals, Occurs}
-use Rattle.text.specs.declared.Read.{Read}
-use Rattle.text.specs.declared.Read.TheVariants as read
+use Rattle.text.specs.Answers.{Tables, Outcome, any_short, text_outcome, outcome, tables_due, ModelRead, Accepted, refusals, Occurs}
+use Rattle.text.specs.declared.Counts.{Counts}
+use Rattle.values.specs.Refusal.{answer_number, number_of}
+use Rattle.values.specs.declared.refusal.Refusal.{Refusal}
 use Rattle.answer.specs.Lines.{answer_line, row_line, path_line, most_line, most_path_line}
 use Rattle.answer.specs.Answers.{Due, LineWritten, number_due, row_due, model_due, path_due}
 use Rattle.answer.specs.Answers.Due.{line}
@@ -28,15 +29,15 @@ use Rattle.promises.specs.One.{One}
 
 -- "A refusal changes nothing we lent": none of the four tables.
 abbrev pub TextRefusalKeeps : Type 0
-TextRefusalKeeps = (text : List ℕ) (before after : Tables) (n : ℕ) → ModelRead text before after (read.Refused n) → after ≡ before
+TextRefusalKeeps = (text : List ℕ) (before after : Tables) (e : Refusal) → ModelRead text before after (Err e) → after ≡ before
 
 -- The number is the one that is due: 24 first, 18 next, and then what the form gives; 0 where a model is read.
 abbrev pub TextNumber : Type 0
-TextNumber = (text : List ℕ) (before after : Tables) (r : Read) → ModelRead text before after r → number_of r ≡ reading.number_due (outcome before text)
+TextNumber = (text : List ℕ) (before after : Tables) (r : Result Counts Refusal) → ModelRead text before after r → answer_number r ≡ reading.number_due (outcome before text)
 
 -- It is 1, 2, 6, 10, 18, 19 or 24, no other, and each of them occurs.
 abbrev pub TextNumbers : Type 0
-TextNumbers = ((text : List ℕ) (before after : Tables) (n : ℕ) → ModelRead text before after (read.Refused n) → Memᴰ n refusals) × All Occurs refusals
+TextNumbers = ((text : List ℕ) (before after : Tables) (e : Refusal) → ModelRead text before after (Err e) → Memᴰ (number_of e) refusals) × All Occurs refusals
 
 -- A text is in the form of a model exactly if it is the print of it.
 abbrev pub FormIsPrint : Type 0
@@ -45,8 +46,8 @@ FormIsPrint = (text : List ℕ) (m : Model) → (model_text text ≡ found m [])
 -- The print of a model is read as that model: the fronts of the tables are filled with it, and the rest stays.
 abbrev pub PrintIsRead : Type 0
 PrintIsRead =
-    (before after : Tables) (m : Model) (r : Read) → Printable m → any_short before ≡ false → length (print m) ≤ most_text → ModelRead (print m) before after r
-    → (r ≡ read.Model m.states m.atoms (count m.transitions) (node_count m.nodes)) × (after ≡ tables_due (Outcome.model m) before)
+    (before after : Tables) (m : Model) (r : Result Counts Refusal) → Printable m → any_short before ≡ false → length (print m) ≤ most_text → ModelRead (print m) before after r
+    → (r ≡ Ok (record { states = m.states; atoms = m.atoms; transitions = count m.transitions; nodes = node_count m.nodes })) × (after ≡ tables_due (Outcome.model m) before)
 
 -- No model's print passes the limit of a text.
 abbrev pub PrintFits : Type 0
@@ -54,7 +55,7 @@ PrintFits = (m : Model) → Printable m → length (print m) ≤ most_text
 
 -- Whatever is accepted is the print of what was read.
 abbrev pub ReadIsPrint : Type 0
-ReadIsPrint = (text : List ℕ) (before after : Tables) (s a e f : ℕ) → ModelRead text before after (read.Model s a e f) → Accepted text before after s a e f
+ReadIsPrint = (text : List ℕ) (before after : Tables) (c : Counts) → ModelRead text before after (Ok c) → Accepted text before after c
 
 -- "Every answer is pinned down to the last entry." Any two answers that reading may give coincide, and so do the tables;
 abbrev pub OneReading : Type 0

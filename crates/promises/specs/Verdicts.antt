@@ -1,6 +1,6 @@
--- Demand 2. What `judge` writes is the three-valued meaning, and it survives every completion of the unknown labels. A model is accepted where
--- the answer is `Verdicts v`; `held S after k s` is then the verdict that stands in the space for node k at state s.
-use Rattle.std.specs.Prelude.{◌≡◌, ℕ, ◌-◌, ◌<◌, ◌≤◌, List, Bool, ◌⊎◌, ◌↔◌, drop}
+-- What `judge` writes is the three-valued meaning, and it survives every completion of the unknown labels. A model is accepted where
+-- the answer is `Ok v`; `held S after k s` is then the verdict that stands in the space for node k at state s.
+use Rattle.std.specs.Prelude.{Ok, ◌≡◌, ℕ, ◌-◌, ◌<◌, ◌≤◌, List, Bool, ◌⊎◌, ◌↔◌, drop}
 use Rattle.lists.specs.Entries.{at}
 use Rattle.values.specs.Values.{top}
 use Rattle.values.specs.Rows.{row_begin, held}
@@ -9,9 +9,7 @@ use Rattle.kripke.specs.Transitions.{Edge, Graph}
 use Rattle.model.specs.Model.{Initial, Model, node_count, kind_at, left_at}
 use Rattle.model.specs.Labels.{Labels, Settled, Completion, completed, label_count}
 use Rattle.ctl.specs.Rows.{verdict_at, model_verdict}
-use Rattle.ctl.specs.Answers.{Judging}
-use Rattle.ctl.specs.declared.Judged.{Judged}
-use Rattle.ctl.specs.declared.Judged.TheVariants.{Verdicts}
+use Rattle.ctl.specs.Answers.{Judged, Judging}
 
 -- k is a node of the model and s a state of it
 pub record There (m : Model) (k s : ℕ) : Type 0 where
@@ -24,7 +22,7 @@ written m after k s = held m.states after k s
 
 -- this holds of all that `judge` leaves and answers where it accepts a model
 abbrev pub Accepting : (Model → List ℕ → List ℕ → Verdict → Type 0) → Type 0
-Accepting Holds = (m : Model) (before after : List ℕ) (v : Verdict) → Judging m before after (Verdicts v) → Holds m before after v
+Accepting Holds = (m : Model) (before after : List ℕ) (v : Verdict) → Judging m before after (Ok v) → Holds m before after v
 
 -- "For every state and every formula the verdict is true, false or unknown,
 abbrev pub InRange : Type 0
@@ -69,7 +67,7 @@ Settling = (m m' : Model) → Settled m m' → ((k s : ℕ) → Stays (verdict_a
 abbrev pub AcceptingBoth : (Model → Model → Type 0) → (Model → Model → List ℕ → List ℕ → Verdict → Verdict → Type 0) → Type 0
 AcceptingBoth Related Holds =
     (m m' : Model) → Related m m' → (before after before' after' : List ℕ) (v v' : Verdict)
-    → Judging m before after (Verdicts v) → Judging m' before' after' (Verdicts v') → Holds m m' after after' v v'
+    → Judging m before after (Ok v) → Judging m' before' after' (Ok v') → Holds m m' after after' v v'
 
 -- So is what two calls of `judge` wrote and answered;
 abbrev pub SettlingKeeps : Type 0
@@ -77,7 +75,7 @@ SettlingKeeps = AcceptingBoth Settled (λ m m' after after' v v'. ((k s : ℕ) �
 
 -- and the second call accepts wherever the first one does.
 abbrev pub SettlingAccepted : Type 0
-SettlingAccepted = Accepting (λ m before after v. (m' : Model) → Settled m m' → (after' : List ℕ) (r : Judged) → Judging m' before after' r → (v' : Verdict) × (r ≡ Verdicts v'))
+SettlingAccepted = Accepting (λ m before after v. (m' : Model) → Settled m m' → (after' : List ℕ) (r : Judged) → Judging m' before after' r → (v' : Verdict) × (r ≡ Ok v'))
 
 -- "A true or false stays so however the unknown labels turn out, each filled in with yes or no, the transitions kept."
 abbrev pub CompletionKeeps : Type 0
