@@ -1,4 +1,4 @@
-//! The sets of kinds that cases draw from; the cases stored before request 4 keep to the first seven.
+//! The sets of kinds that cases draw from; the cases that were stored first keep to the first seven.
 
 use crate::random::Random;
 

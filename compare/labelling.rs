@@ -1,5 +1,5 @@
 //! Judging by two ordinary labellings: "sure" takes unknown against us, "possible" takes it in our favour.
-//! Negation exchanges the two (document 000, section 6).
+//! Negation exchanges the two.
 
 use crate::along::{held, met, worths};
 use crate::model::{successors, Model};

@@ -3,7 +3,7 @@
 use crate::model::Model;
 use crate::question::Question;
 
-/// An atom that no node names: since request 6, after all other refusals of judging.
+/// An atom that no node names: after all other refusals of judging.
 pub const UNNAMED: u16 = 22;
 
 type Test<'a> = (u16, Box<dyn Fn() -> bool + 'a>);

@@ -1,4 +1,4 @@
-//! Judging literally as the paper words it: every walk of exactly S states is listed and its value taken.
+//! Judging literally as the rules word it: every walk of exactly S states is listed and its value taken.
 
 use crate::model::{successors, Model};
 

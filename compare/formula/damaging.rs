@@ -9,7 +9,7 @@ use crate::random::Random;
 const FIRST_RING: &[u8] = b"T)p0&!(E A1X 2U3tx|\n9>u,";
 const RING: &[u8] = b"T)p0&!(E A1X 2U3tx|\n9>u,FG-aegf=";
 
-/// How often each damage is done; the last one came with request 4.
+/// How often each damage is done; the last one came with the kinds behind the first seven.
 const FIRST_WAYS: &[usize] = &[25, 15, 15, 10, 10, 5, 5, 5, 10];
 const WAYS: &[usize] = &[20, 10, 10, 10, 10, 5, 5, 5, 10, 15];
 

@@ -17,7 +17,7 @@ pub fn many_nodes(kinds: Kinds) -> Vec<Vec<u8>> {
     kinds.choose(many_nodes_before(), [many_nodes_before(), many_nodes_since()].concat())
 }
 
-/// Those with the signs of before request 4.
+/// Those with the signs of the first seven kinds.
 pub fn long_before() -> Vec<Vec<u8>> {
     let quarter = MOST_BYTES / 4 - 1;
     vec![
@@ -36,7 +36,7 @@ pub fn long_before() -> Vec<Vec<u8>> {
     ]
 }
 
-/// Those with the signs that came with it.
+/// Those with the signs of the kinds behind them.
 pub fn long_since() -> Vec<Vec<u8>> {
     let (quarter, third) = (MOST_BYTES / 4 - 1, (MOST_BYTES - 1) / 3);
     vec![

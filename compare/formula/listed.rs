@@ -20,7 +20,7 @@ pub const SHAPES: [&str; 40] = [
     "(((((T&p0)&p1)&p2)&p3)&EX !EX p4)",
 ];
 
-/// All cases stored before request 4, none of them twice.
+/// All cases with the first seven kinds, none of them twice.
 pub fn cases() -> Vec<Vec<u8>> {
     let shapes = SHAPES.iter().flat_map(|text| of_shape(text)).collect();
     let at_limits = at_limits(&edges::long_before(), &edges::many_nodes_before());
@@ -123,7 +123,7 @@ const CHANGES: [(&str, &str); 11] = [
     ("node=0,0,0\n", "node=0,0,0"),
 ];
 
-/// The paper's first night with its formula as text, and the order in which model, formula and tables are judged.
+/// The first night with its formula as text, and the order in which model, formula and tables are judged.
 fn judged() -> Vec<Vec<u8>> {
     let night = "states=2\natoms=1\ninit=10\nlabel=U\nlabel=T\nedges=2\nedge=0,1\nedge=1,1\nnodes=1\nnode=0,0,0\n";
     let formulas =

@@ -29,7 +29,7 @@ fn print(nodes: &[u16]) -> String {
     answered(printing_case(4_096, nodes))
 }
 
-/// Texts and their lists written down from the paper, not by this program.
+/// Texts and their lists written down from the rules, not by this program.
 fn by_hand() {
     let pairs: [(&str, &[u16]); 11] = [
         ("T", &[0, 0, 0]),
@@ -91,7 +91,7 @@ fn parts() {
     assert_eq!(answered(part_case(4_096, 63, &[0; 193])), "answer=20\n");
 }
 
-/// The paper's first night, its formula as text.
+/// The first night, its formula as text.
 fn judging() {
     let model = "states=2\natoms=1\ninit=10\nlabel=U\nlabel=T\nedges=2\nedge=0,1\nedge=1,1\nnodes=1\nnode=9,9,9\n";
     let judged = |formula: &str, model: &str| answered(judging_case(formula.as_bytes(), model.as_bytes()));

@@ -1,4 +1,4 @@
-//! A formula judged on the tree itself, by listing walks as the paper words it; no node list is used.
+//! A formula judged on the tree itself, by listing walks as the rules word it; no node list is used.
 
 use super::tree::{Formula, JOINTS, PREFIXES};
 use crate::model::{successors, Model, TRUE};

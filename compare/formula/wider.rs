@@ -1,4 +1,4 @@
-//! The cases about formulas that are stored since request 4: what its signs and kinds are, and what is near to them.
+//! The stored cases about formulas with kinds behind the first seven: their signs and kinds, and what is near to them.
 
 use super::answering::{judging_case, part_case, printing_case, reading_case};
 use super::listed::{at_limits, of_shape, once, NODE_ROOM, TEXT_ROOM};

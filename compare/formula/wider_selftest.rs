@@ -1,4 +1,4 @@
-//! The signs since request 4 by hand: their node lists, what is near to them, and what they say of a model.
+//! The signs of the kinds behind the first seven by hand: node lists, what is near to them, what they say of a model.
 
 use super::answering::{answer, judging_case, part_case, printing_case, reading_case};
 use super::{reading, wrong};

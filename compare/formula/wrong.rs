@@ -4,7 +4,7 @@ use super::near;
 use super::tree::{JOINTS, PREFIXES};
 use crate::kinds::Kinds;
 
-/// Those of before request 4.
+/// Those near the signs of the first seven kinds.
 #[rustfmt::skip]
 const FIRST: &[&[u8]] = &[
     b"", b" ", b"\n", b"\0", b"t", b"F", b"U", b"p", b"P0", b"q0", b"0", b"31", b"p32", b"p33", b"p99", b"p100",
@@ -20,10 +20,10 @@ const FIRST: &[&[u8]] = &[
     b"A(T&T)", b"a(T U T)", b"A (T U T)", b"A(T U T", b"AT U T)", b"E[T U T]",
 ];
 
-/// Those of before that are read since.
+/// Two of them that the grammar has since it has all kinds.
 pub const READ_SINCE: [&[u8]; 2] = [b"AX T", b"(T|T)"];
 
-/// Those near the signs that came with request 4.
+/// Those near the signs of the kinds behind the first seven.
 #[rustfmt::skip]
 const SINCE: &[&[u8]] = &[
     b"AX", b"AX ", b"EF", b"EF ", b"AF", b"AF ", b"EG", b"EG ", b"AG", b"AG ", b"X T", b"F T", b"G T", b"FT", b"GT",
@@ -41,7 +41,7 @@ const SINCE: &[&[u8]] = &[
     b"AG (p0>AFp1)", b"AG (p0>AF p1", b"AG p0>AF p1)", b"AG (p0->AF p1)", b"ag (p0>af p1)", b"AG (P0>AF P1)",
 ];
 
-/// Everything near to a sign that came with request 4, in the place of that sign.
+/// Everything near to a sign of the kinds behind the first seven, in the place of that sign.
 fn near_signs() -> Vec<Vec<u8>> {
     let (first, all) = (Kinds::First.greatest(), Kinds::All.greatest());
     let since = |kind: u16| first < kind && kind <= all;
@@ -52,7 +52,7 @@ fn near_signs() -> Vec<Vec<u8>> {
     prefixes.chain(middles).collect()
 }
 
-/// All that were wrong before request 4, or all that came with it.
+/// All that were wrong with the first seven kinds, or all that came with the others.
 pub fn before() -> Vec<Vec<u8>> {
     FIRST.iter().map(|text| text.to_vec()).collect()
 }

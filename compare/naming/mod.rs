@@ -1,4 +1,4 @@
-//! Atoms that a node names or none does: refusal 22, which came with request 6.
+//! Atoms that a node names or none does: refusal 22.
 
 pub mod listed;
 pub mod mixture;

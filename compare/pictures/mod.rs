@@ -1,4 +1,4 @@
-//! Pictures of why an A-until is false, which came with request 7: whether there is one, and whether a list is one.
+//! Pictures of why an A-until is false: whether there is one, and whether a list is one.
 
 pub mod answering;
 mod asking;

@@ -1,4 +1,4 @@
-//! The stored models about the kinds since request 4: every value of their operands, and every refusal of theirs.
+//! The stored models about or, implies, AX, EF, AF, EG and AG: every value of their operands, each of their refusals.
 
 use crate::limits::model_case;
 use crate::model::Model;

@@ -1,4 +1,4 @@
-//! The kinds that came with request 4: their cases in models' own nodes, and a mixture over all kinds.
+//! Or, implies, AX, EF, AF, EG and AG: their cases in models' own nodes, and a mixture over all kinds.
 
 pub mod listed;
 pub mod mixture;

@@ -1,4 +1,4 @@
-//! The kinds since request 4 by hand: each row below is worked from the meaning, walk by walk.
+//! Or, implies, AX, EF, AF, EG and AG by hand: each row below is worked from the meaning, walk by walk.
 
 use super::listed;
 use crate::answers;
