@@ -51,7 +51,10 @@ fn take_row(graph: &Graph, source: &[u8; MOST_STATES], row: &mut [u8; MOST_STATE
     if row[..states] == source[..states] {
         return false;
     }
-    row[..states].copy_from_slice(&source[..states]);
+    // entry by entry, so that an archive for C needs no memmove
+    for s in 0..states {
+        row[s] = source[s];
+    }
     true
 }
 

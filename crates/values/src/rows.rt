@@ -94,6 +94,9 @@ pub fn store_row(values: &[u8], space: &mut [u8]) -> bool
     if space.len() < n {
         return false;
     }
-    space[..n].copy_from_slice(values);
+    // entry by entry, so that an archive for C needs no memmove
+    for i in 0..n {
+        space[i] = values[i];
+    }
     true
 }

@@ -9,7 +9,7 @@ use Rattle.model.specs.Inside.{Fine}
 use Rattle.model.specs.Model.{Model, as_model}
 use Rattle.ctl.specs.Inside.{Judgeable, RowsReady}
 use Rattle.ctl.specs.Rows.{stored_rows}
-use Rattle.ctl.proofs.JudgeLaws.{judged_refused, judged_rows, last_ready, last_verdict, lent_fine, rows_of_lem, rows_ready, structure}
+use Rattle.ctl.proofs.JudgeLaws.{judged_rows, last_ready, last_verdict, lent_fine, rows_of_lem, rows_ready, structure}
 use Rattle.model.proofs.Fine.{judge_fine}
 use Rattle.ctl.proofs.judge.Goals as goal
 use Rattle.ctl.proofs.judge.Goals.{In_ok-table}

@@ -1,7 +1,7 @@
 -- `next_row` meets its contract: a row filled from the front.
 use mathlib.Core.Path.{ap, ◌∙◌}
 use native.Mathlib.Omega.{arith}
-use Rattle.lists.proofs.Rows.{filled_end, filled_more, filled_none}
+use Rattle.lists.proofs.Rows.{filled_more, filled_none}
 use Rattle.values.specs.declared.verdict.Verdict.{Verdict}
 use Rattle.ctl.proofs.nodes.next_row.Goals as goal
 

@@ -1,5 +1,5 @@
 -- `put_node` meets its contract: both operands' rows, the node's row in a scratch row, and that into the space.
-use mathlib.Core.Path.{◌≡◌, sym, ap, ◌∙◌}
+use mathlib.Core.Path.{◌≡◌, ap, ◌∙◌}
 use Prim.Native.Nat.{ℕ}
 use mathlib.Core.List.{List}
 use Rattle.lists.specs.Rows.{laid}

@@ -1,15 +1,10 @@
 -- `put_rows` meets its contract: after i nodes the space holds their rows.
-use mathlib.Core.Path.{◌≡◌, ap, ◌∙◌}
-use Prim.Native.Nat.{ℕ}
-use mathlib.Core.List.{List}
+use mathlib.Core.Path.{◌∙◌}
 use native.Mathlib.Omega.{arith}
-use Rattle.lists.specs.Rows.{fill}
 use Rattle.ctl.specs.Lent.{model_of}
 use Rattle.ctl.proofs.Lent.{lent_judgeable}
-use Rattle.ctl.specs.Rows.{stored_rows}
 use Rattle.model.specs.Model.{node_count}
 use Rattle.ctl.proofs.FineRows.{next_within, space_fit, space_next, space_start}
-use Rattle.ctl.proofs.NodeLists.{first_rows, rows_whole}
 use Rattle.ctl.proofs.rows.put_rows.Goals as goal
 
 pub loop-i-init : goal.loop-i-init

@@ -3,7 +3,7 @@ use mathlib.Core.Path.{◌≡◌, refl}
 use Prim.Native.Nat.{ℕ, ◌+◌, ◌*◌, ◌<◌}
 use native.Mathlib.Omega.{arith}
 use native.Mathlib.Nat.{mul-le-mul_right}
-use Rattle.lists.proofs.Rows.{filled_end, filled_more, filled_none}
+use Rattle.lists.proofs.Rows.{filled_more, filled_none}
 use Rattle.ctl.proofs.nodes.Structure.atom_row.Goals as goal
 
 -- a label's place lies within the list

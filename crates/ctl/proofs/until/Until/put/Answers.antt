@@ -1,11 +1,9 @@
 -- `put` meets its contract: before round k the row has the values over walks of k states.
-use mathlib.Core.Path.{◌≡◌, ap, ◌∙◌}
-use Prim.Native.Nat.{ℕ, ◌+◌}
-use mathlib.Core.List.{◌++◌}
+use mathlib.Core.Path.{◌∙◌}
+use Prim.Native.Nat.{◌+◌}
 use native.Mathlib.Omega.{arith}
-use lib.ListN.{drop}
 use Rattle.kripke.specs.Until.{until}
-use Rattle.lists.specs.Rows.{Filled, tab}
+use Rattle.lists.specs.Rows.{Filled}
 use Rattle.ctl.proofs.UntilRows.{rested, right_row, round_row}
 use Rattle.lists.proofs.Rows.{filled_again, filled_self}
 use Rattle.ctl.proofs.until.Until.put.Goals as goal
