@@ -10,7 +10,7 @@ use lib.ListN.{length}
 use lib.Dec.{eqb, ltb}
 use borrow.Author.Tests.{lt-ltb, le-ltb, eq-eqb, ne_eqb, ltb-true, eqb-true, eqb-false}
 use Rattle.kripke.specs.Transitions.{Ascending, count, ends, first_out, from, succs, to}
-use Rattle.lists.specs.Entries.{Some, at, is_nil}
+use Rattle.lists.specs.Entries.{All, Some, at, is_nil}
 use Rattle.lists.proofs.Entries.{nil_of}
 use Rattle.lists.proofs.Numbers.{lt_or_le}
 
@@ -127,3 +127,10 @@ pub first_less : (es : List ℕ) (s : ℕ) → Ascending es → Some (succs es s
 first_less es s asc some =
     let apart = eqb-false (first_out es s) (first_out es (s + 1)) (sym (stuck_at es s asc) ∙ nil_of (succs es s) some) in
     omega (arith, first_rises es s asc)
+
+-- behind the last state stands the number of transitions
+pub first_all : (es : List ℕ) (S : ℕ) → All (λ (t : ℕ). t < S) es → first_out es S ≡ count es
+unfolding first_out
+first_all [] S a = omega arith
+first_all (f ∷ []) S a = omega arith
+first_all (f ∷ t ∷ es) S a = rw (lt-ltb f S a.0) (omega (arith, first_all es S a.1.1))

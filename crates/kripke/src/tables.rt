@@ -20,6 +20,8 @@ pub struct Tables {
 
 // The tables of a question read, or the refusal of lowest number that applies to them.
 // kept: the tables one by one, as callers lend them, which may not change; what is read of them is one struct.
+// Inlined, so that the tables are not copied once more out of the Result.
+#[inline(always)]
 pub fn read_tables(
     states: usize,
     transitions: &[u16],
