@@ -18,3 +18,4 @@ pub mod Listing
 pub mod Gathering
 pub mod Running
 pub mod Meetable
+mod Zeros

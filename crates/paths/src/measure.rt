@@ -27,7 +27,8 @@ impl<'a> Question<'a> {
     fn begin(&self, distances: &mut [u16; MOST_STATES])
         ensures { Filled (at_once self.now.graph.states (at self.now.right.now) self.now.level) (length distances.old) distances.old distances.new }
     {
-        for s in 0..distances.len() {
+        distances.fill(0);
+        for s in 0..self.graph.states {
             distances[s] = self.at_once(s);
         }
     }

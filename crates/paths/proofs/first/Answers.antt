@@ -1,6 +1,5 @@
 -- `first` meets its contract: a refusal, or what `Question::first` found.
 use mathlib.Core.Path.{sym, ◌∙◌}
-use borrow.Author.Tests.{leb-false}
 use Rattle.kripke.proofs.Reading.{tables_taken}
 use Rattle.paths.proofs.Promising.{first_level, first_start, first_tables, first_worked}
 use Rattle.paths.proofs.first.Goals as goal

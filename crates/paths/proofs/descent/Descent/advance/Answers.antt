@@ -5,7 +5,7 @@ use lib.ListN.{length}
 use borrow.Rule.Slice.PartMut.{same_len_mid}
 use Rattle.lists.specs.Entries.{at}
 use Rattle.paths.proofs.Fits.{picked}
-use Rattle.paths.proofs.Advancing.{advancing_end, advancing_found, advancing_in, advancing_start, advancing_step, put_rest, rest_length}
+use Rattle.paths.proofs.Advancing.{advancing_found, advancing_in, advancing_step, put_rest, rest_length}
 use Rattle.paths.proofs.descent.Descent.advance.Goals as goal
 
 pub overflow_cast-n : goal.overflow_cast-n

@@ -1,7 +1,7 @@
 -- `descend` meets its contract: each place has the smallest state below the one before.
 use native.Mathlib.Omega.{arith}
 use Rattle.paths.proofs.Fits.{picked}
-use Rattle.paths.proofs.Descending.{filling_end, filling_in, filling_step, lowest_there, picked_lowest}
+use Rattle.paths.proofs.Descending.{filling_end, filling_in, filling_step, picked_lowest}
 use Rattle.kripke.proofs.Successors.{edge_state}
 use Rattle.paths.proofs.descent.Descent.descend.Goals as goal
 
