@@ -7,7 +7,7 @@ use mathlib.Core.Bool.{Bool, true, false, cond, not, true≢false}
 use mathlib.Core.Logic.{◌⊎◌, inl, inr, ⊎_elim}
 use native.Mathlib.Omega.{arith}
 use borrow.Author.Count.{below_more}
-use lib.ListN.{length, set}
+use lib.ListN.{length, replicate, set}
 use borrow.Author.Tests.{eq-eqb, eqb-true}
 use Rattle.std.specs.Prelude.{Option, Some, None}
 use Rattle.std.specs.Option.{is_some}
@@ -17,9 +17,9 @@ use Rattle.lists.proofs.Sums.{sum, sum_raised}
 use Rattle.kripke.specs.Transitions.{Edge, Graph, succs}
 use Rattle.kripke.specs.Until.{until}
 use Rattle.kripke.proofs.Successors.{edge_state, edge_succ, succ_edge}
-use Rattle.pictures.specs.Inside.{Begun, Goes, Holds, Marked, Rounded, Stuck, WayOn, mark}
+use Rattle.pictures.specs.Inside.{Begun, Goes, Holds, Led, Marked, Noted, Rounded, StateNoted, Stuck, WayOn, mark, noted}
 use Rattle.pictures.proofs.Closing.{false_goes, false_low}
-use Rattle.lists.proofs.Entries.{set_or_not}
+use Rattle.lists.proofs.Entries.{same_at, set_or_not}
 
 -- `way`: what is left of the successors, and what was found
 pub record Seeking (S : ℕ) (es : List ℕ) (marks : List Bool) (s : ℕ) (way : Option ℕ) (rest : List ℕ) : Type 0 where
@@ -69,23 +69,74 @@ module _ (S : ℕ) (es left : List ℕ) (marks : List Bool) (s : ℕ) where
   stuck_way (Some t) true w e m k = absurd (true≢false e)
   stuck_way (Some t) false w e m k = loose (λ x. let f = w.found t refl in inr (t, f.0, f.1))
 
+  -- nothing is noted of a state without a mark or with a left value of 0, and of any other its way
+  module _ (ways : List (Option ℕ)) where
+    pub noted_unmarked : mark marks s ≡ false → StateNoted S es left marks s ways ways
+    noted_unmarked e = record { here = λ m. absurd (true≢false (sym m.1 ∙ e)); others = λ x d. refl }
+
+    pub noted_low : at left s ≡ 0 → StateNoted S es left marks s ways ways
+    noted_low z = record { here = λ m k. absurd (k z); others = λ x d. refl }
+
+    pub noted_way : (way : Option ℕ) → s < length ways → WayOn S es marks s way → StateNoted S es left marks s ways (set ways s way)
+    noted_way way h w =
+        record {
+          here = λ m k. ⊎_elim (λ p. subst (WayOn S es marks s) (sym p.1) w) (λ p. absurd (p.0 refl)) (set_or_not None ways s way s h);
+          others = λ x d. ⊎_elim (λ p. absurd (d p.0)) (λ p. p.1) (set_or_not None ways s way x h);
+        }
+
+  -- while the state that is noted has its mark it is the way on
+  pub way_stays : (G : Graph S es) (ways : List (Option ℕ)) (t : ℕ) → Led es ways → noted ways s ≡ Some t → mark marks t ≡ true → WayOn S es marks s (noted ways s)
+  way_stays G ways t led e m =
+      let x = led.along s t e in
+      subst (WayOn S es marks s) (sym e) (record { found = λ u q. let same : t ≡ u = cc in subst (λ (y : ℕ). Edge es s y × Marked S marks y) same (x, (edge_state S es G s t x, m)); none = λ q. absurd (not_some t (sym q)) })
+
+  pub noted_still : (ways : List (Option ℕ)) → WayOn S es marks s (noted ways s) → StateNoted S es left marks s ways ways
+  noted_still ways w = record { here = λ m k. w; others = λ x d. refl }
+
+  pub loose_way : (t : ℕ) → Edge es s t → t < S → mark marks t ≡ true → Stuck S es left marks s false
+  loose_way t x h m = loose (λ y. inr (t, x, (h, m)))
+
+-- where nothing is noted each note leads along a transition, and where another way on is
+pub led_none : (es : List ℕ) (k : ℕ) → Led es (replicate k None)
+led_none es k = record { along = λ s t e. absurd (not_some t (sym (same_at None k s) ∙ e)) }
+
+pub led_way : (S : ℕ) (es : List ℕ) (marks : List Bool) (s : ℕ) (ways : List (Option ℕ)) (way : Option ℕ) → s < length ways → WayOn S es marks s way → Led es ways → Led es (set ways s way)
+led_way S es marks s ways way h w led =
+    record {
+      along = λ x t e. ⊎_elim
+          (λ p. let q = w.found t (sym p.1 ∙ e) in subst (λ (y : ℕ). Edge es y t) (sym p.0) q.0)
+          (λ p. led.along x t (sym p.1 ∙ e))
+          (set_or_not None ways s way x h);
+    }
+
 -- `round` at state n
-pub record Rounding (S : ℕ) (es left : List ℕ) (before marks : List Bool) (some : Bool) (n : ℕ) : Type 0 where
+pub record Rounding (S : ℕ) (es left : List ℕ) (before marks : List Bool) (ways : List (Option ℕ)) (some : Bool) (n : ℕ) : Type 0 where
   pub size : length marks ≡ length before
   pub keeps : (right : List ℕ) → Holds S es left right before → Holds S es left right marks
   pub no_more : (s : ℕ) → mark marks s ≡ true → mark before s ≡ true
   pub fewer : some ≡ true → (s : ℕ) × (s < S) × (mark before s ≡ true) × (mark marks s ≡ false)
   pub seen : some ≡ false → (s : ℕ) → s < n → Marked S marks s → Goes es (at left) (Marked S marks) s
+  pub notes : some ≡ false → Noted S es left marks ways n
+  pub leads : Led es ways
 
 module _ (S : ℕ) (es : List ℕ) (G : Graph S es) (left : List ℕ) (before : List Bool) where
-  pub rounding_start : Rounding S es left before before false 0
-  rounding_start = record { size = refl; keeps = λ r h. h; no_more = λ s m. m; fewer = λ e. absurd (true≢false (sym e)); seen = λ e s l. absurd (omega arith) }
+  pub rounding_start : (ways : List (Option ℕ)) → Led es ways → Rounding S es left before before ways false 0
+  rounding_start ways led = record { size = refl; keeps = λ r h. h; no_more = λ s m. m; fewer = λ e. absurd (true≢false (sym e)); seen = λ e s l. absurd (omega arith); notes = λ e. record { is = λ s l. absurd (omega arith) }; leads = led }
 
-  module _ (marks : List Bool) (some : Bool) (n : ℕ) (h : n < S) (k : Rounding S es left before marks some n) where
-    pub rounding_passed : Stuck S es left marks n false → Rounding S es left before marks some (n + 1)
-    rounding_passed d = record { size = k.size; keeps = k.keeps; no_more = k.no_more; fewer = k.fewer; seen = λ e. below_more (λ (s : ℕ). Marked S marks s → Goes es (at left) (Marked S marks) s) n (k.seen e) (d.goes refl) }
+  module _ (marks : List Bool) (ways later : List (Option ℕ)) (some : Bool) (n : ℕ) (h : n < S) (k : Rounding S es left before marks ways some n) where
+    pub rounding_passed : Stuck S es left marks n false → StateNoted S es left marks n ways later → Led es later → Rounding S es left before marks later some (n + 1)
+    rounding_passed d v led =
+        record {
+          size = k.size;
+          keeps = k.keeps;
+          no_more = k.no_more;
+          fewer = k.fewer;
+          seen = λ e. below_more (λ (s : ℕ). Marked S marks s → Goes es (at left) (Marked S marks) s) n (k.seen e) (d.goes refl);
+          notes = λ e. record { is = below_more (λ (s : ℕ). Marked S marks s → (at left s ≡ 0 → ⊥) → WayOn S es marks s (noted later s)) n (λ s l m x. subst (WayOn S es marks s) (sym (v.others s (λ q. omega (arith, l, q)))) ((k.notes e).is s l m x)) v.here };
+          leads = led;
+        }
 
-    module _ (room : S ≤ length before) (d : Stuck S es left marks n true) where
+    module _ (room : S ≤ length before) (d : Stuck S es left marks n true) (led : Led es later) where
       -- where a state is stuck, A(left U right) is not false
       not_false : (right : List ℕ) → Holds S es left right marks → until true es left right S n ≡ 0 → ⊥
       not_false right y z = ⊎_elim (d.kept refl) (λ x. true≢false (sym (y.all x.0 x.2.0 x.2.1) ∙ d.none refl x.0 x.1)) (false_goes S es G left right n (h, z))
@@ -99,7 +150,7 @@ module _ (S : ℕ) (es : List ℕ) (G : Graph S es) (left : List ℕ) (before : 
       gone : mark (set marks n false) n ≡ false
       gone = ⊎_elim (λ p. p.1) (λ p. absurd (p.0 refl)) (off n)
 
-      pub rounding_stuck : length (set marks n false) ≡ length marks → Rounding S es left before (set marks n false) true (n + 1)
+      pub rounding_stuck : length (set marks n false) ≡ length marks → Rounding S es left before (set marks n false) later true (n + 1)
       rounding_stuck long =
           record {
             size = long ∙ k.size;
@@ -111,9 +162,14 @@ module _ (S : ℕ) (es : List ℕ) (G : Graph S es) (left : List ℕ) (before : 
             no_more = λ s m. k.no_more s (still s m);
             fewer = λ e. (n, h, k.no_more n (d.held refl), gone);
             seen = λ e. absurd (true≢false e);
+            notes = λ e. absurd (true≢false e);
+            leads = led;
           }
 
-  pub rounding_end : {marks : List Bool} {some : Bool} {n : ℕ} → Rounding S es left before marks some n → S ≤ n → Rounded S es left before marks some
+  pub rounding_notes : {marks : List Bool} {ways : List (Option ℕ)} {some : Bool} {n : ℕ} → Rounding S es left before marks ways some n → S ≤ n → some ≡ false → Noted S es left marks ways S
+  rounding_notes k h e = record { is = λ s l. (k.notes e).is s (omega (arith, l, h)) }
+
+  pub rounding_end : {marks : List Bool} {ways : List (Option ℕ)} {some : Bool} {n : ℕ} → Rounding S es left before marks ways some n → S ≤ n → Rounded S es left before marks some
   rounding_end k h = record { keeps = k.keeps; no_more = k.no_more; fewer = k.fewer; goes = λ e s m. k.seen e s (omega (arith, m.0)) m }
 
 -- how many states have a mark

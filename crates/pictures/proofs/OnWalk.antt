@@ -8,7 +8,7 @@ use lib.ListN.{length, set, drop, replicate, length-append, length-drop}
 use Rattle.lists.specs.Entries.{at}
 use Rattle.values.specs.Limits.{most_states}
 use Rattle.kripke.specs.Transitions.{Edge}
-use Rattle.pictures.specs.Inside.{AllMarked, Drawing, Goes, Marked, Walked, WayOn, mark}
+use Rattle.pictures.specs.Inside.{AllMarked, Drawing, Goes, Marked, Noted, Walked, WayOn, mark, noted}
 use Rattle.pictures.specs.Pictures.{EndsBy}
 use Rattle.std.specs.Prelude.{Option, Some, None, Ok}
 use mathlib.Core.Bool.{Bool, true, true≢false}
@@ -38,14 +38,14 @@ module _ (S : ℕ) (es : List ℕ) (marks : List Bool) (start : ℕ) (before : L
   on_start few m = record { passed = []; size = refl; front = refl; walking = walk_start S es (Marked S marks) inside start most_states few m }
 
   module _ (space : List ℕ) (places : List (Option ℕ)) (s n : ℕ) (o : OnWalk S es marks start before space places s n) where
-    marked : Marked S marks s
-    marked = all_last (Marked S marks) o.passed s o.walking.holds
+    pub on_marked : Marked S marks s
+    on_marked = all_last (Marked S marks) o.passed s o.walking.holds
 
     fits : n < S
     fits = subst (λ (k : ℕ). k < S) o.size (walk_fits S es (Marked S marks) inside start o.passed s places o.walking)
 
     pub on_steady : Steady S before space s n
-    on_steady = record { here = marked.0; left_over = fits; size = ap length o.front ∙ length-append o.passed (drop n before) ∙ omega (arith, o.size, length-drop n before, fits) }
+    on_steady = record { here = on_marked.0; left_over = fits; size = ap length o.front ∙ length-append o.passed (drop n before) ∙ omega (arith, o.size, length-drop n before, fits) }
 
     -- the space and the places with s put in
     put : set space n s ≡ (o.passed ++ (s ∷ [])) ++ drop (n + 1) before
@@ -65,7 +65,7 @@ module _ (S : ℕ) (es : List ℕ) (marks : List Bool) (start : ℕ) (before : L
 
     -- the next state: the way on, which leads to a mark
     pub on_way : (left : List ℕ) (way : Option ℕ) → ((s : ℕ) → Marked S marks s → Goes es (at left) (Marked S marks) s) → (at left s ≡ 0 → ⊥) → WayOn S es marks s way → way ≡ None → ⊥
-    on_way left way goes holds w e = ⊎_elim holds (λ x. true≢false (sym x.2.1 ∙ w.none e x.0 x.1)) (goes s marked)
+    on_way left way goes holds w e = ⊎_elim holds (λ x. true≢false (sym x.2.1 ∙ w.none e x.0 x.1)) (goes s on_marked)
 
     module _ (t : ℕ) (e : Edge es s t) where
       pub on_back : (left : List ℕ) (j : ℕ) → place (set places s (Some n)) t ≡ Some j → Walked S es left marks start before (set space n s) (n + 1) (Back j)
@@ -80,34 +80,40 @@ module _ (S : ℕ) (es : List ℕ) (marks : List Bool) (start : ℕ) (before : L
             walking = subst (Walking S es (Marked S marks) start (o.passed ++ (s ∷ [])) t) placed (walk_more S es (Marked S marks) inside start o.passed s places o.walking t e m (subst (λ (ps : List (Option ℕ)). place ps t ≡ None) (sym placed) z));
           }
 
--- the walk's marks: they are those of the false states, and the start has one
-pub record Going (S : ℕ) (es left right : List ℕ) (marks : List Bool) (start : ℕ) (before space : List ℕ) (places : List (Option ℕ)) (s n : ℕ) : Type 0 where
+-- the walk's marks, by which the ways on are noted: they are those of the false states, and the start has one
+pub record Going (S : ℕ) (es left right : List ℕ) (ways : List (Option ℕ)) (start : ℕ) (before space : List ℕ) (places : List (Option ℕ)) (s n : ℕ) : Type 0 where
+  pub marks : List Bool
   pub marked : AllMarked S es left right marks
+  pub follows : Noted S es left marks ways S
   pub begun : mark marks start ≡ true
   pub walk : OnWalk S es marks start before space places s n
 
-module _ (S : ℕ) (es left right : List ℕ) (marks : List Bool) (start : ℕ) (before : List ℕ) (room : S ≤ length before) (space : List ℕ) (places : List (Option ℕ)) (s n : ℕ) (g : Going S es left right marks start before space places s n) where
+module _ (S : ℕ) (es left right : List ℕ) (ways : List (Option ℕ)) (start : ℕ) (before : List ℕ) (room : S ≤ length before) (space : List ℕ) (places : List (Option ℕ)) (s n : ℕ) (g : Going S es left right ways start before space places s n) where
   pub going_steady : Steady S before space s n
-  going_steady = on_steady S es marks start before room space places s n g.walk
+  going_steady = on_steady S es g.marks start before room space places s n g.walk
 
-  drawing : (e : Ending) → Walked S es left marks start before (set space n s) (n + 1) e → Drawing S es left right start before (set space n s) (Ok (Some (n + 1, e)))
-  drawing e w = record { marks = marks; marked = g.marked; says = (g.begun, room, w) }
+  drawing : (e : Ending) → Walked S es left g.marks start before (set space n s) (n + 1) e → Drawing S es left right start before (set space n s) (Ok (Some (n + 1, e)))
+  drawing e w = record { marks = g.marks; marked = g.marked; says = (g.begun, room, w) }
 
   pub going_falls : at left s ≡ 0 → Drawing S es left right start before (set space n s) (Ok (Some (n + 1, Falls)))
-  going_falls z = drawing Falls (on_falls S es marks start before room space places s n g.walk left z)
+  going_falls z = drawing Falls (on_falls S es g.marks start before room space places s n g.walk left z)
 
-  pub going_way : (at left s ≡ 0 → ⊥) → (way : Option ℕ) → WayOn S es marks s way → way ≡ None → ⊥
-  going_way holds way w = on_way S es marks start before room space places s n g.walk left way g.marked.goes holds w
+  module _ (holds : at left s ≡ 0 → ⊥) where
+    way : WayOn S es g.marks s (noted ways s)
+    way = let m = on_marked S es g.marks start before room space places s n g.walk in g.follows.is s m.0 m holds
 
-  module _ (t : ℕ) (w : WayOn S es marks s (Some t)) where
-    next : Edge es s t × Marked S marks t
-    next = w.found t refl
+    pub going_way : noted ways s ≡ None → ⊥
+    going_way = on_way S es g.marks start before room space places s n g.walk left (noted ways s) g.marked.goes holds way
 
-    pub going_state : t < S
-    going_state = next.1.0
+    module _ (t : ℕ) (led : noted ways s ≡ Some t) where
+      next : Edge es s t × Marked S g.marks t
+      next = way.found t led
 
-    pub going_back : (j : ℕ) → place (set places s (Some n)) t ≡ Some j → Drawing S es left right start before (set space n s) (Ok (Some (n + 1, Back j)))
-    going_back j l = drawing _ (on_back S es marks start before room space places s n g.walk t next.0 left j l)
+      pub going_state : t < S
+      going_state = next.1.0
 
-    pub going_on : place (set places s (Some n)) t ≡ None → Going S es left right marks start before (set space n s) (set places s (Some n)) t (n + 1)
-    going_on z = record { marked = g.marked; begun = g.begun; walk = on_more S es marks start before room space places s n g.walk t next.0 next.1 z }
+      pub going_back : (j : ℕ) → place (set places s (Some n)) t ≡ Some j → Drawing S es left right start before (set space n s) (Ok (Some (n + 1, Back j)))
+      going_back j l = drawing _ (on_back S es g.marks start before room space places s n g.walk t next.0 left j l)
+
+      pub going_on : place (set places s (Some n)) t ≡ None → Going S es left right ways start before (set space n s) (set places s (Some n)) t (n + 1)
+      going_on z = record { marks = g.marks; marked = g.marked; follows = g.follows; begun = g.begun; walk = on_more S es g.marks start before room space places s n g.walk t next.0 next.1 z }

@@ -18,7 +18,8 @@ impl<'a> Question<'a> {
         ensures { Drawing self.now.graph.states self.now.graph.transitions.now self.now.left.now self.now.right.now start path.old path.new result }
     {
         let mut marks = [false; MOST_STATES];
-        self.mark(&mut marks);
+        let mut ways = [None; MOST_STATES];
+        self.mark(&mut marks, &mut ways);
         if !marks[start] {
             return Ok(None);
         }
@@ -37,7 +38,7 @@ impl<'a> Question<'a> {
             if self.left[s] == 0 {
                 return Ok(Some((n, Ending::Falls)));
             }
-            s = self.way(&marks, s).unwrap();
+            s = ways[s].unwrap() as usize;
             let passed = places[s];
             if let Some(place) = passed {
                 return Ok(Some((n, Ending::Back(place as usize))));

@@ -1,5 +1,5 @@
 -- `passes` meets its contract: what the check answered; tables and a row that are fine are not refused.
-use Rattle.pictures.proofs.Checks.{pass_refused, passes_told}
+use Rattle.pictures.proofs.Checks.{pass_refused}
 use Rattle.pictures.proofs.checking.Denied.passes.Goals as goal
 
 pub returns-in-Err : goal.returns-in-Err

@@ -1,24 +1,23 @@
 -- `draw` meets its contract: by the mark of the start, the room, and the walk, on which no state is passed twice.
 use native.Mathlib.Omega.{arith}
 use Prim.Native.Nat.{ℕ}
-use mathlib.Core.Path.{◌≡◌, refl, subst}
+use mathlib.Core.Path.{◌≡◌, refl}
 use Rattle.std.specs.Prelude.{Option, Some, None}
 use Rattle.std.specs.Option.{IsSome}
-use Rattle.pictures.specs.Inside.{WayOn}
+use Rattle.values.specs.Limits.{most_states}
+use Rattle.pictures.proofs.Marking.{led_none}
 use Rattle.pictures.proofs.OnWalk.{going_back, going_falls, going_on, going_state, going_steady, going_way, on_start}
 use Rattle.pictures.proofs.question.Question.draw.Goals as goal
-use Rattle.pictures.proofs.question.Question.draw.Goals.{After-unwrap-s}
 
 there : (o : Option ℕ) → (o ≡ None → ⊥) → IsSome o
 there None n = absurd (n refl)
 there (Some t) n = refl
 
--- the way was there
-led : (c : After-unwrap-s) → let g = c.args.self.now.graph in WayOn g.states g.transitions.now c.mark.new.marks c.loop-s.s (Some c.unwrap-s.result)
-led c = let g = c.args.self.now.graph in subst (WayOn g.states g.transitions.now c.mark.new.marks c.loop-s.s) c.unwrap-s.ensures c.way.ensures
+pub mark-requires : goal.mark-requires
+mark-requires c = led_none _ most_states
 
 pub loop-s-init : goal.loop-s-init
-loop-s-init c = let q = c.args.self.now.graph.ready.accepted in record { marked = c.mark.ensures; begun = c.if-not-marks-start.false; walk = on_start _ _ _ _ _ c.if-path-self.false q.few (c.requires, c.if-not-marks-start.false) }
+loop-s-init c = let q = c.args.self.now.graph.ready.accepted in record { marks = c.mark.new.marks; marked = c.mark.ensures.marked; follows = c.mark.ensures.noted; begun = c.if-not-marks-start.false; walk = on_start _ _ _ _ _ c.if-path-self.false q.few (c.requires, c.if-not-marks-start.false) }
 
 pub overflow_cast-path : goal.overflow_cast-path
 overflow_cast-path c = let G = c.args.self.now.graph.ready.accepted in let q = going_steady _ _ _ _ _ _ _ c.if-path-self.false _ _ _ _ c.loop-s.invariant in omega (arith, q.here, G.few)
@@ -41,20 +40,26 @@ bounds-self-s c = let G = c.args.self.now.graph.ready.accepted in let q = going_
 pub returns-then-self-s-eq0 : goal.returns-then-self-s-eq0
 returns-then-self-s-eq0 c = going_falls _ _ _ _ _ _ _ c.if-path-self.false _ _ _ _ c.loop-s.invariant c.if-self-s-eq0.true
 
+pub offset_bounds-ways-s : goal.offset_bounds-ways-s
+offset_bounds-ways-s c = let G = c.args.self.now.graph.ready.accepted in let q = going_steady _ _ _ _ _ _ _ c.if-path-self.false _ _ _ _ c.loop-s.invariant in omega (arith, q.here, G.few)
+
+pub bounds-ways-s : goal.bounds-ways-s
+bounds-ways-s c = let G = c.args.self.now.graph.ready.accepted in let q = going_steady _ _ _ _ _ _ _ c.if-path-self.false _ _ _ _ c.loop-s.invariant in omega (arith, q.here, G.few)
+
 pub unwrap-s-requires : goal.unwrap-s-requires
-unwrap-s-requires c = there _ (going_way _ _ _ _ _ _ _ c.if-path-self.false _ _ _ _ c.loop-s.invariant c.if-self-s-eq0.false _ c.way.ensures)
+unwrap-s-requires c = there _ (going_way _ _ _ _ _ _ _ c.if-path-self.false _ _ _ _ c.loop-s.invariant c.if-self-s-eq0.false)
 
 pub offset_bounds-places-s-in-loop-s : goal.offset_bounds-places-s-in-loop-s
-offset_bounds-places-s-in-loop-s c = omega (arith, c.args.self.now.graph.ready.accepted.few, going_state _ _ _ _ _ _ _ c.if-path-self.false _ _ _ _ c.loop-s.invariant _ (led (goal.at.offset_bounds-places-s-in-loop-s c).After-unwrap-s))
+offset_bounds-places-s-in-loop-s c = omega (arith, c.args.self.now.graph.ready.accepted.few, going_state _ _ _ _ _ _ _ c.if-path-self.false _ _ _ _ c.loop-s.invariant c.if-self-s-eq0.false _ c.unwrap-s.ensures)
 
 pub bounds-places-s-in-loop-s : goal.bounds-places-s-in-loop-s
-bounds-places-s-in-loop-s c = omega (arith, c.args.self.now.graph.ready.accepted.few, going_state _ _ _ _ _ _ _ c.if-path-self.false _ _ _ _ c.loop-s.invariant _ (led (goal.at.bounds-places-s-in-loop-s c).After-unwrap-s))
+bounds-places-s-in-loop-s c = omega (arith, c.args.self.now.graph.ready.accepted.few, going_state _ _ _ _ _ _ _ c.if-path-self.false _ _ _ _ c.loop-s.invariant c.if-self-s-eq0.false _ c.unwrap-s.ensures)
 
 pub returns-in-Some : goal.returns-in-Some
-returns-in-Some c = going_back _ _ _ _ _ _ _ c.if-path-self.false _ _ _ _ c.loop-s.invariant _ (led (goal.at.returns-in-Some c).After-unwrap-s) _ c.in-Some.is
+returns-in-Some c = going_back _ _ _ _ _ _ _ c.if-path-self.false _ _ _ _ c.loop-s.invariant c.if-self-s-eq0.false _ c.unwrap-s.ensures _ c.in-Some.is
 
 pub loop-s-smaller : goal.loop-s-smaller
 loop-s-smaller c = let q = going_steady _ _ _ _ _ _ _ c.if-path-self.false _ _ _ _ c.loop-s.invariant in omega (arith, q.left_over)
 
 pub loop-s-preserved : goal.loop-s-preserved
-loop-s-preserved c = going_on _ _ _ _ _ _ _ c.if-path-self.false _ _ _ _ c.loop-s.invariant _ (led (goal.at.loop-s-preserved c).After-unwrap-s) c.in_default.is
+loop-s-preserved c = going_on _ _ _ _ _ _ _ c.if-path-self.false _ _ _ _ c.loop-s.invariant c.if-self-s-eq0.false _ c.unwrap-s.ensures c.in_default.is

@@ -3,7 +3,7 @@ use mathlib.Core.Path.{sym, ap, ◌∙◌, subst}
 use native.Mathlib.Omega.{arith}
 use Rattle.std.specs.Prelude.{None}
 use Rattle.kripke.specs.Answers.{targets}
-use Rattle.pictures.proofs.Marking.{Seeking, seeking_end, seeking_found, seeking_passed, seeking_start, seeking_state}
+use Rattle.pictures.proofs.Marking.{Seeking, seeking_found, seeking_start, seeking_state}
 use Rattle.pictures.proofs.question.Question.way.Goals as goal
 
 pub loop-t-init : goal.loop-t-init
