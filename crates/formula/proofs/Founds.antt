@@ -80,12 +80,12 @@ found_one {u} {w} {v} {before} {mid} {after} {n} {m} {r} t f k =
     }
 
 -- a term is a formula where no prefix stands, a leaf is a term where no pair begins
-pub parses_any : (u : List ℕ) (n : ℕ) (before after : List ℕ) (r : Option Place) → NoSign sign u
-    → Parses Term u n before after r → Parses Any u n before after r
-parses_any u n before after (Some p) x h = h
-parses_any u n before after None x h = none_any u x h
+pub parses_any : (place : Place) (before after : List ℕ) (to : Place) (r : Option (Unit {0})) → NoSign sign place.rest.now
+    → Parses Term place before after to r → Parses Any place before after to r
+parses_any place before after to (Some p) x h = h
+parses_any place before after to None x h = none_any place.rest.now x h
 
-pub parses_term : (u : List ℕ) (n : ℕ) (before after : List ℕ) (r : Option Place) → NoSign opened u
-    → Parses Leaf u n before after r → Parses Term u n before after r
-parses_term u n before after (Some p) x h = h
-parses_term u n before after None x h = none_term u x h
+pub parses_term : (place : Place) (before after : List ℕ) (to : Place) (r : Option (Unit {0})) → NoSign opened place.rest.now
+    → Parses Leaf place before after to r → Parses Term place before after to r
+parses_term place before after to (Some p) x h = h
+parses_term place before after to None x h = none_term place.rest.now x h

@@ -1,7 +1,6 @@
 pub mod Numbers
 pub mod Beginnings
 pub mod Operators
-pub mod SignTables
 pub mod AtomLaws
 pub mod Shapes
 pub mod OneReading

@@ -1,6 +1,6 @@
 -- What a text begins with: bytes, or a sign of some size; and what is left behind it.
 use Prim.Native.Nat.{ℕ, ◌+◌, ◌-◌, ◌<◌}
-use mathlib.Core.Path.{◌≡◌, ap, sym, ◌∙◌}
+use mathlib.Core.Path.{◌≡◌, refl, ap, sym, ◌∙◌}
 use mathlib.Core.List.{List, ◌++◌}
 use mathlib.Core.Bool.{true}
 use native.Mathlib.Omega.{arith}
@@ -11,7 +11,7 @@ use Rattle.model.specs.declared.kinds.Kind.{Kind}
 use Rattle.formula.specs.Tree.{Prefix, Pair}
 use Rattle.formula.specs.Text.{sign, middle}
 use Rattle.formula.specs.Inside.{begins, SignIs, Bracket, opened}
-use Rattle.formula.proofs.Beginnings.{begins_with}
+use Rattle.formula.proofs.Beginnings.{begins_with, begins_long}
 use Rattle.formula.proofs.Operators.{each_prefix, each_pair, each_bracket}
 
 -- the rest of a text from k on, as it is lent
@@ -41,6 +41,11 @@ pub record SignThere {A : Type 0} (sign_of : A → List ℕ) (named : A → Kind
 pub sign_there : {A : Type 0} (sign_of : A → List ℕ) (named : A → Kind) (u : List ℕ) (x : Sign)
     → SignIs sign_of named u x → SignThere sign_of named u x (from x.size u)
 sign_there sign_of named u x f = record { which = f.which; kind = f.kind; there = there (sign_of f.which) u x.size f.size f.stands }
+
+-- a text that begins with a sign's bytes begins with that sign
+pub sign_is : {A : Type 0} (sign_of : A → List ℕ) (named : A → Kind) (u : List ℕ) (a : A) → begins (sign_of a) u ≡ true
+    → SignIs sign_of named u (record { kind = named a; size = length (sign_of a) })
+sign_is sign_of named u a e = record { which = a; stands = e; kind = refl; size = refl; inside = begins_long (sign_of a) u e }
 
 pub prefix_some : (p : Prefix) → 0 < length (sign p)
 prefix_some = each_prefix (λ (p : Prefix). 0 < length (sign p)) (omega arith) (omega arith) (omega arith) (omega arith) (omega arith) (omega arith) (omega arith)

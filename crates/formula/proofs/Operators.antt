@@ -1,10 +1,8 @@
 -- What holds of each prefix, of each pair and of each bracket, gone through one by one.
-use mathlib.Core.Path.{◌≡◌, refl, ap}
-use Rattle.model.specs.Kinds.{kind_number}
+use mathlib.Core.Path.{◌≡◌, refl}
 use Rattle.formula.specs.Tree.{Prefix, NOT, EX, AX, EF, AF, EG, AG, Pair, AND, EU, AU, OR, IMPLIES}
 use Rattle.formula.specs.Text.{opening}
-use Rattle.formula.specs.Inside.{Bracket, plain, some, every, opened, bracket_of, bracket_kind, PairIn}
-use native.Mathlib.Omega.{arith}
+use Rattle.formula.specs.Inside.{Bracket, plain, some, every, opened, bracket_of}
 
 pub each_prefix : (P : Prefix → Type 0) → P NOT → P EX → P AX → P EF → P AF → P EG → P AG → (p : Prefix) → P p
 each_prefix P a b d e f g h NOT = a
@@ -30,11 +28,3 @@ each_bracket P a b d every = d
 -- a pair begins with its bracket
 pub opening_opened : (q : Pair) → opening q ≡ opened (bracket_of q)
 opening_opened = each_pair (λ (q : Pair). opening q ≡ opened (bracket_of q)) refl refl refl refl refl
-
--- of the pairs that a bracket begins: no other pair has it
-other : (b c : Bracket) (P : Type 0) → (kind_number (bracket_kind b) ≡ kind_number (bracket_kind c) → ⊥) → b ≡ c → P
-other b c P h e = absurd (h (ap (λ (b : Bracket). kind_number (bracket_kind b)) e))
-
-pub each_plain : (P : Pair → Type 0) → P AND → P OR → P IMPLIES → (x : PairIn plain) → P x.pair
-each_plain P a b d x =
-    each_pair (λ (q : Pair). bracket_of q ≡ plain → P q) (λ e. a) (other some plain (P EU) (λ e. omega arith)) (other every plain (P AU) (λ e. omega arith)) (λ e. b) (λ e. d) x.pair x.within

@@ -41,6 +41,11 @@ pub middle_read : {u before mid v : List ℕ} {n m : ℕ} {r s : Sign} → LeftR
     → MiddleRead u n before mid r v m s (from s.size v)
 middle_read x a = record { front = x; join = sign_there middle_in kind_in _ _ (a x.bracket.which x.bracket.kind) }
 
+pub right_read : {u before mid late v z : List ℕ} {n m k : ℕ} {r s : Sign} → SignIs opened bracket_kind u r → Found (from r.size u) n before mid v m
+    → ((b : Bracket) → r.kind ≡ bracket_kind b → SignIs {A = PairIn b} middle_in kind_in v s) → Found (from s.size v) m mid late z k
+    → RightRead u n before mid late r v m s (from s.size v) z k
+right_read a p j q = record { front = middle_read (left_read a p) j; right = q }
+
 -- ---- a pair that breaks off
 
 module _ {u : List ℕ} {r : Sign} where

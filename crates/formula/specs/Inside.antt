@@ -1,5 +1,5 @@
 -- What the readers ask of one another and answer; no promise of a public call cites these.
-use Rattle.std.specs.Prelude.{◌≡◌, ℕ, ◌+◌, ◌*◌, ◌<◌, ◌≤◌, List, [], ◌∷◌, ◌++◌, Bool, true, false, cond, ◌&&◌, Option, Some, None, MatchOption, length, drop, eqb, leb}
+use Rattle.std.specs.Prelude.{◌≡◌, ℕ, ◌+◌, ◌*◌, ◌<◌, ◌≤◌, List, [], ◌∷◌, ◌++◌, Bool, true, false, ◌&&◌, Option, MatchOption, length, drop, eqb, leb}
 use Rattle.std.specs.List.{starts_with}
 use Rattle.lists.specs.Rows.{Put}
 use Rattle.values.specs.Limits.{most_atoms, most_nodes}
@@ -48,11 +48,6 @@ NoSign {A} sign_of u = (a : A) → begins (sign_of a) u ≡ false
 -- what a text begins with: one of the signs, or none
 abbrev pub SignAt : {A : Type 0} → (A → List ℕ) → (A → Kind) → List ℕ → Option Sign → Type 0
 SignAt sign_of named u r = MatchOption r (NoSign sign_of u) (λ x. SignIs sign_of named u x)
-
--- the first sign of a table that a text begins with
-unfoldable pub first_of : List (List ℕ × Kind) → List ℕ → Option Sign
-first_of [] u = None
-first_of (row ∷ rows) u = cond (begins row.0 u) (Some (record { kind = row.1; size = length row.0 })) (first_of rows u)
 
 -- the kind of a prefix
 abbrev pub prefix_named : Prefix → Kind
@@ -158,6 +153,6 @@ pub record Found (u : List ℕ) (n : ℕ) (before after v : List ℕ) (m : ℕ) 
   pub ahead : m + length v ≤ n + length u
   pub put : m ≤ most_nodes → Put before after (3 * n) (3 * m) (nodes_from n tree)
 
--- the readers' answer, for the formulas of a sort
-abbrev pub Parses : (Formula → Type 0) → List ℕ → ℕ → List ℕ → List ℕ → Option Place → Type 0
-Parses Sort u n before after r = MatchOption r (NoneOf Sort u) (λ x. Found u n before after x.rest.now x.nodes)
+-- the readers' answer, for the formulas of a sort: from a place to the one behind it
+abbrev pub Parses : (Formula → Type 0) → Place → List ℕ → List ℕ → Place → Option (Unit {0}) → Type 0
+Parses Sort place before after behind r = MatchOption r (NoneOf Sort place.rest.now) (λ x. Found place.rest.now place.nodes before after behind.rest.now behind.nodes)

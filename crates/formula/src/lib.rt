@@ -40,11 +40,11 @@ pub fn read_formula(text: &[u8], nodes: &mut [u16]) -> Result<usize, Refusal>
         return Err(Refusal::FormulaForm);
     }
     let mut space = [0u16; MOST_NODE_NUMBERS];
-    let whole = Place {
+    let mut parsed = Place {
         rest: text,
         nodes: 0,
     };
-    let Some(parsed) = formula(whole, &mut space) else {
+    let Some(()) = formula(&mut parsed, &mut space) else {
         return Err(Refusal::FormulaForm);
     };
     if !parsed.rest.is_empty() {

@@ -40,35 +40,39 @@ fn put_decimal(number: u16, text: &mut [u8], place: usize) -> usize
     put_digit(number % 10, text, last)
 }
 
-// What stands in front of the first operand.
-fn opening(kind: Kind) -> &'static [u8]
-    ensures { result.now ≡ front (sort_of kind) }
+// What stands in front of the first operand: a sign of known length for each kind, which costs less than one put by its length.
+// kept: the space and the place by themselves, for the reason that put has.
+fn put_opening(kind: Kind, text: &mut [u8], place: usize) -> usize
+    requires { place + length (front (sort_of kind)) ≤ length text.old }
+    ensures { Put text.old text.new place result (front (sort_of kind)) }
 {
     match kind {
-        Kind::True | Kind::Atom => b"",
-        Kind::Not => b"!",
-        Kind::Ex => b"EX ",
-        Kind::Ax => b"AX ",
-        Kind::Ef => b"EF ",
-        Kind::Af => b"AF ",
-        Kind::Eg => b"EG ",
-        Kind::Ag => b"AG ",
-        Kind::And | Kind::Or | Kind::Implies => b"(",
-        Kind::Eu => b"E(",
-        Kind::Au => b"A(",
+        Kind::True | Kind::Atom => put(b"", text, place),
+        Kind::Not => put(b"!", text, place),
+        Kind::Ex => put(b"EX ", text, place),
+        Kind::Ax => put(b"AX ", text, place),
+        Kind::Ef => put(b"EF ", text, place),
+        Kind::Af => put(b"AF ", text, place),
+        Kind::Eg => put(b"EG ", text, place),
+        Kind::Ag => put(b"AG ", text, place),
+        Kind::And | Kind::Or | Kind::Implies => put(b"(", text, place),
+        Kind::Eu => put(b"E(", text, place),
+        Kind::Au => put(b"A(", text, place),
     }
 }
 
-// What stands between the two operands.
-fn middle(kind: Kind) -> &'static [u8]
-    ensures { result.now ≡ inner (sort_of kind) }
+// What stands between the two operands, so too.
+// kept: the space and the place by themselves, for the reason that put has.
+fn put_middle(kind: Kind, text: &mut [u8], place: usize) -> usize
+    requires { place + length (inner (sort_of kind)) ≤ length text.old }
+    ensures { Put text.old text.new place result (inner (sort_of kind)) }
 {
     match kind {
-        Kind::And => b"&",
-        Kind::Or => b"|",
-        Kind::Implies => b">",
-        Kind::Eu | Kind::Au => b" U ",
-        _ => b"",
+        Kind::And => put(b"&", text, place),
+        Kind::Or => put(b"|", text, place),
+        Kind::Implies => put(b">", text, place),
+        Kind::Eu | Kind::Au => put(b" U ", text, place),
+        _ => put(b"", text, place),
     }
 }
 
@@ -96,12 +100,12 @@ pub(crate) fn write(nodes: &[u16], i: usize, text: &mut [u8], place: usize) -> u
     if taken == 0 {
         return write_leaf(node, text, place);
     }
-    let first = put(opening(node.kind), text, place);
+    let first = put_opening(node.kind, text, place);
     if taken == 1 {
         return write(nodes, i - 1, text, first);
     }
     let join = write(nodes, node.left as usize, text, first);
-    let second = put(middle(node.kind), text, join);
+    let second = put_middle(node.kind, text, join);
     let end = write(nodes, i - 1, text, second);
     put(b")", text, end)
 }

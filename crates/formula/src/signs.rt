@@ -1,7 +1,7 @@
 // The signs that a formula's text goes on with.
-ghost use Rattle.std.specs.Prelude.{◌≡◌, map};
+ghost use Rattle.std.specs.Prelude.{◌≡◌};
 ghost use Rattle.formula.specs.Text.{sign};
-ghost use Rattle.formula.specs.Inside.{first_of, SignAt, Bracket, prefix_named, opened, bracket_kind, MiddleAt};
+ghost use Rattle.formula.specs.Inside.{SignAt, Bracket, plain, prefix_named, opened, bracket_kind, MiddleAt};
 
 use model::kinds::Kind;
 
@@ -12,50 +12,47 @@ pub(crate) struct Sign {
     pub(crate) size: usize,
 }
 
-// What stands before one formula.
-const PREFIXES: [(&[u8], Kind); 7] = [
-    (b"!", Kind::Not),
-    (b"EX ", Kind::Ex),
-    (b"AX ", Kind::Ax),
-    (b"EF ", Kind::Ef),
-    (b"AF ", Kind::Af),
-    (b"EG ", Kind::Eg),
-    (b"AG ", Kind::Ag),
-];
-
-// A bracket goes by the first kind that it begins.
-const BRACKETS: [(&[u8], Kind); 3] = [(b"(", Kind::And), (b"E(", Kind::Eu), (b"A(", Kind::Au)];
-
-// What joins the parts of a pair with a plain bracket.
-const JOINS: [(&[u8], Kind); 3] = [(b"&", Kind::And), (b"|", Kind::Or), (b">", Kind::Implies)];
-
-// The first sign of a table that the rest of a text begins with.
-fn sign_at(table: &[(&[u8], Kind)], rest: &[u8]) -> Option<Sign>
-    ensures { result ≡ first_of (map (λ p. (p.0.now, p.1)) table.now) rest.now }
-{
-    for &(bytes, kind) in table {
-        if rest.starts_with(bytes) {
-            return Some(Sign {
-                kind,
-                size: bytes.len(),
-            });
-        }
-    }
-    None
-}
-
 // What stands before a formula.
 pub(crate) fn prefix_at(rest: &[u8]) -> Option<Sign>
     ensures { SignAt sign prefix_named rest.now result }
 {
-    sign_at(&PREFIXES, rest)
+    let (kind, size) = match rest {
+        [b'!', ..] => (Kind::Not, 1),
+        [b'E', b'X', b' ', ..] => (Kind::Ex, 3),
+        [b'A', b'X', b' ', ..] => (Kind::Ax, 3),
+        [b'E', b'F', b' ', ..] => (Kind::Ef, 3),
+        [b'A', b'F', b' ', ..] => (Kind::Af, 3),
+        [b'E', b'G', b' ', ..] => (Kind::Eg, 3),
+        [b'A', b'G', b' ', ..] => (Kind::Ag, 3),
+        _ => return None,
+    };
+    Some(Sign { kind, size })
 }
 
-// The bracket that begins a pair.
+// The bracket that begins a pair: it goes by the first kind that it begins.
 pub(crate) fn opening_at(rest: &[u8]) -> Option<Sign>
     ensures { SignAt opened bracket_kind rest.now result }
 {
-    sign_at(&BRACKETS, rest)
+    let (kind, size) = match rest {
+        [b'(', ..] => (Kind::And, 1),
+        [b'E', b'(', ..] => (Kind::Eu, 2),
+        [b'A', b'(', ..] => (Kind::Au, 2),
+        _ => return None,
+    };
+    Some(Sign { kind, size })
+}
+
+// What joins the parts of a pair with a plain bracket.
+fn join_at(rest: &[u8]) -> Option<Sign>
+    ensures { MiddleAt plain rest.now result }
+{
+    let kind = match rest {
+        [b'&', ..] => Kind::And,
+        [b'|', ..] => Kind::Or,
+        [b'>', ..] => Kind::Implies,
+        _ => return None,
+    };
+    Some(Sign { kind, size: 1 })
 }
 
 // What joins the parts of a pair: one with E or A is until's alone.
@@ -63,7 +60,7 @@ pub(crate) fn middle_at(rest: &[u8], bracket: Kind) -> Option<Sign>
     ensures { (b : Bracket) → bracket ≡ bracket_kind b → MiddleAt b rest.now result }
 {
     if let Kind::And = bracket {
-        return sign_at(&JOINS, rest);
+        return join_at(rest);
     }
     if rest.starts_with(b" U ") {
         return Some(Sign {

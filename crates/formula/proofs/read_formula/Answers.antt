@@ -35,6 +35,6 @@ returns-then-parsed-gt-MOST_NODES c =
 pub returns : goal.returns
 returns c =
     let a = c.args in
-    let n = 3 * c.in-Some.parsed.nodes in
+    let n = 3 * c.formula.new.place.nodes in
     let long : length (take n c.formula.new.space) ≡ n = length-take n c.formula.new.space ∙ omega (arith, c.if-parsed-gt-MOST_NODES.false) in
     read_done a.text.now a.nodes.now c.if-nodes-lt-MOST_NODE_NUMBERS.false c.if-text-gt-MOST_FORMULA.false _ _ _ _ c.in-Some.ensures (eqb-true _ 0 (sym c.if-not-is_empty.ensures)) c.if-parsed-gt-MOST_NODES.false _ (cc (c.copy_from_slice.ensures.after, long))

@@ -10,14 +10,14 @@ use Rattle.formula.proofs.printing.+write.Goals as goal
 use Rattle.formula.proofs.printing.+write.Goals.{Else-taken-eq1, Then-taken-eq1}
 
 -- the operand of a prefix, behind its sign
-below : (t : ℕ) (c : goal.Then-taken-eq1 t) → (0 < c.args.i) × Writable c.args.nodes.now c.put-first.new.text (c.args.i - 1) c.put-first.result
-below t c = prefix_below c.requires (sym c.operands-taken.ensures ∙ c.if-taken-eq1.true) c.in-Some.ensures (rw c.opening.ensures at c.put-first.ensures) c.put-first.auto.text
+below : (t : ℕ) (c : goal.Then-taken-eq1 t) → (0 < c.args.i) × Writable c.args.nodes.now c.put_opening-first.new.text (c.args.i - 1) c.put_opening-first.result
+below t c = prefix_below c.requires (sym c.operands-taken.ensures ∙ c.if-taken-eq1.true) c.in-Some.ensures c.put_opening-first.ensures c.put_opening-first.auto.text
 
 -- the pieces of a pair: its opening, the left operand, its middle, the right operand
-opened : (t : ℕ) (c : goal.Else-taken-eq1 t) → Opened c.args.nodes.now c.args.text.now c.put-first.new.text c.args.i c.args.place c.put-first.result c.in-Some.node
+opened : (t : ℕ) (c : goal.Else-taken-eq1 t) → Opened c.args.nodes.now c.args.text.now c.put_opening-first.new.text c.args.i c.args.place c.put_opening-first.result c.in-Some.node
 opened t c =
     let two = two_left _ c.operands-taken.ensures c.if-taken-eq0.false c.if-taken-eq1.false in
-    is_opened c.requires two c.in-Some.ensures (rw c.opening.ensures at c.put-first.ensures) c.put-first.auto.text
+    is_opened c.requires two c.in-Some.ensures c.put_opening-first.ensures c.put_opening-first.auto.text
 
 pub returns-in_default : goal.returns-in_default
 returns-in_default t c = unread_written c.in_default.ensures
@@ -28,8 +28,8 @@ write_leaf-requires t c = leaf_fits c.requires (sym c.operands-taken.ensures ∙
 pub returns-then-taken-eq0 : goal.returns-then-taken-eq0
 returns-then-taken-eq0 t c = leaf_written (sym c.operands-taken.ensures ∙ c.if-taken-eq0.true) c.in-Some.ensures c.write_leaf.ensures
 
-pub put-first-requires : goal.put-first-requires
-put-first-requires t c = rw c.opening.ensures (opening_fits c.requires c.in-Some.ensures)
+pub put_opening-first-requires : goal.put_opening-first-requires
+put_opening-first-requires t c = opening_fits c.requires c.in-Some.ensures
 
 pub overflow_sub-i : goal.overflow_sub-i
 overflow_sub-i t c = (below t c).0
@@ -41,7 +41,7 @@ write-requires t c =
     (less, rest.1)
 
 pub returns-then-taken-eq1 : goal.returns-then-taken-eq1
-returns-then-taken-eq1 t c = prefix_written (sym c.operands-taken.ensures ∙ c.if-taken-eq1.true) c.in-Some.ensures (rw c.opening.ensures at c.put-first.ensures) c.write.ensures
+returns-then-taken-eq1 t c = prefix_written (sym c.operands-taken.ensures ∙ c.if-taken-eq1.true) c.in-Some.ensures c.put_opening-first.ensures c.write.ensures
 
 pub write-join-requires : goal.write-join-requires
 write-join-requires t c =
@@ -49,21 +49,21 @@ write-join-requires t c =
     let less : c.in-Some.node.left < t = omega (arith, c.decreases, rest.0) in
     (less, rest.1)
 
-pub put-second-requires : goal.put-second-requires
-put-second-requires t c =
-    let o = opened t (goal.at.put-second-requires t c).Else-taken-eq1 in
-    rw c.middle.ensures (middle_fits (is_half o c.write-join.ensures c.write-join.auto.text))
+pub put_middle-second-requires : goal.put_middle-second-requires
+put_middle-second-requires t c =
+    let o = opened t (goal.at.put_middle-second-requires t c).Else-taken-eq1 in
+    middle_fits (is_half o c.write-join.ensures c.write-join.auto.text)
 
 pub overflow_sub-i-2 : goal.overflow_sub-i-2
 overflow_sub-i-2 t c =
     let o = opened t (goal.at.overflow_sub-i-2 t c).Else-taken-eq1 in
-    let j = is_joined (is_half o c.write-join.ensures c.write-join.auto.text) (rw c.middle.ensures at c.put-second.ensures) c.put-second.auto.text in
+    let j = is_joined (is_half o c.write-join.ensures c.write-join.auto.text) c.put_middle-second.ensures c.put_middle-second.auto.text in
     (other_below j).0
 
 pub write-end-requires : goal.write-end-requires
 write-end-requires t c =
     let o = opened t (goal.at.write-end-requires t c).Else-taken-eq1 in
-    let j = is_joined (is_half o c.write-join.ensures c.write-join.auto.text) (rw c.middle.ensures at c.put-second.ensures) c.put-second.auto.text in
+    let j = is_joined (is_half o c.write-join.ensures c.write-join.auto.text) c.put_middle-second.ensures c.put_middle-second.auto.text in
     let rest = other_below j in
     let less : c.args.i - 1 < t = omega (arith, c.decreases, rest.0) in
     (less, rest.1)
@@ -71,11 +71,11 @@ write-end-requires t c =
 pub put-requires : goal.put-requires
 put-requires t c =
     let o = opened t (goal.at.put-requires t c).Else-taken-eq1 in
-    let j = is_joined (is_half o c.write-join.ensures c.write-join.auto.text) (rw c.middle.ensures at c.put-second.ensures) c.put-second.auto.text in
+    let j = is_joined (is_half o c.write-join.ensures c.write-join.auto.text) c.put_middle-second.ensures c.put_middle-second.auto.text in
     closing_fits (is_ended j c.write-end.ensures c.write-end.auto.text)
 
 pub returns : goal.returns
 returns t c =
     let o = opened t (goal.at.returns t c).Else-taken-eq1 in
-    let j = is_joined (is_half o c.write-join.ensures c.write-join.auto.text) (rw c.middle.ensures at c.put-second.ensures) c.put-second.auto.text in
+    let j = is_joined (is_half o c.write-join.ensures c.write-join.auto.text) c.put_middle-second.ensures c.put_middle-second.auto.text in
     pair_written (is_ended j c.write-end.ensures c.write-end.auto.text) c.put.ensures

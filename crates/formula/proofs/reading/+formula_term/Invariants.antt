@@ -4,7 +4,7 @@ use lib.ListN.{length}
 use Rattle.formula.proofs.reading.+formula_term.Given as goal
 
 abbrev pub decreases-formula : goal.decreases-formula
-decreases-formula l = 2 * length l.place.rest.now + 1
+decreases-formula l = 2 * length l.place.now.rest.now + 1
 
 abbrev pub decreases-term : goal.decreases-term
-decreases-term l = 2 * length l.place.rest.now
+decreases-term l = 2 * length l.place.now.rest.now

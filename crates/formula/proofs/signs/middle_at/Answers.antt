@@ -9,15 +9,14 @@ use Rattle.formula.specs.Text.{middle}
 use Rattle.formula.specs.Inside.{Bracket, bracket_kind, MiddleAt}
 use Rattle.formula.proofs.Beginnings.{begins_long}
 use Rattle.formula.proofs.Operators.{each_bracket}
-use Rattle.formula.proofs.SignTables.{join_found}
 use Rattle.formula.proofs.signs.middle_at.Goals as goal
 
 pub returns-in-And : goal.returns-in-And
 unfolding kind_of
 returns-in-And c =
     let a = c.args in
-    each_bracket (λ (b : Bracket). a.bracket ≡ bracket_kind b → MiddleAt b a.rest.now c.sign_at.result)
-    (λ e. join_found a.rest.now _ c.sign_at.ensures)
+    each_bracket (λ (b : Bracket). a.bracket ≡ bracket_kind b → MiddleAt b a.rest.now c.join_at.result)
+    (λ e. c.join_at.ensures)
     (λ e. absurd (let z : ◌≡◌ {A = ℕ} 0 1 = cc in omega arith))
     (λ e. absurd (let z : ◌≡◌ {A = ℕ} 0 1 = cc in omega arith))
 
