@@ -2,6 +2,8 @@
 // its refusal.
 #![tactic(auto)]
 
+ghost use Rattle.std.specs.Prelude.{◌≤◌, length};
+
 use answer::{MOST_LINE, Unwritten};
 use labelling::label_line;
 use std::io;
@@ -20,17 +22,18 @@ const PIECE: usize = 4096;
 struct Line {
     bytes: [u8; KEPT],
     kept: usize,
+    ghost within: { kept ≤ length bytes },
 }
 
 impl Line {
     fn text(&self) -> &[u8] {
-        &self.bytes[..self.kept.min(KEPT)]
+        &self.bytes[..self.kept]
     }
 
     // Puts a byte behind the others while there is room.
     fn push(&mut self, byte: u8) {
-        if let Some(place) = self.bytes.get_mut(self.kept) {
-            *place = byte;
+        if self.kept < KEPT {
+            self.bytes[self.kept] = byte;
             self.kept += 1;
         }
     }
