@@ -23,21 +23,30 @@ use crate::layers::Depth;
 use crate::lines::{Call, Case};
 use crate::reading::Table;
 use crate::spaces::front;
+use crate::table::piece;
 use crate::{asking, formulas, judging, labels, largest, lines, picturing, reading};
 use std::io;
 use values::limits::{
     MOST_ATOMS, MOST_FORMULA, MOST_NODE_NUMBERS, MOST_NODES, MOST_TEXT, MOST_VERDICTS,
 };
 
+// A case that is a text with line feeds behind it.
+// kept: by the letter, as in `text`.
+fn padded<R: Print>(case: &Case<R>, letter: u8, text: &[u8]) -> io::Result<()> {
+    let page = reading::page(text);
+    match letter {
+        b'u' => reading::asked(case, front(&page, MOST_TEXT), MOST_VERDICTS),
+        b'v' => reading::asked(case, &page, MOST_VERDICTS),
+        _ => reading::read(case, &page, Some(Table::Nodes)),
+    }
+}
+
 // A case that is a text, judged with so much room.
 // kept: by the letter of the case, which the stored cases have; an enum of the forty would be one more table beside these matches.
 fn text<R: Print>(case: &Case<R>, letter: u8, text: &[u8], room: usize) -> io::Result<()> {
-    let page = reading::page(text);
     match letter {
         b't' => reading::asked(case, text, room),
-        b'u' => reading::asked(case, front(&page, MOST_TEXT), MOST_VERDICTS),
-        b'v' => reading::asked(case, &page, MOST_VERDICTS),
-        b'w' => reading::read(case, &page, Some(Table::Nodes)),
+        b'u' | b'v' | b'w' => padded(case, letter, text),
         b'h' => formulas::judged(case, text, None, room),
         b'g' => formulas::judged(case, text, Some(MOST_TEXT), room),
         b'i' => formulas::judged(case, text, Some(MOST_TEXT + 1), room),
@@ -146,7 +155,8 @@ const MOST_CASES: usize = 1000;
 // Every case of a table, up to one without a letter.
 pub(crate) fn run(rt: &impl Print, table: &[u8]) -> io::Result<()> {
     let mut parts = table.split(|byte| *byte == b'|');
-    let mut base: &[u8] = b"";
+    // before the first model the base is changed by what stands behind the most cases, in a table that is longer
+    let mut base = piece(table, 3 * MOST_CASES, b'|');
     for _ in 0..MOST_CASES {
         let Some(&letter) = parts.next().unwrap_or(b"").last() else {
             return Ok(());

@@ -13,5 +13,5 @@ pub(crate) fn front<T>(list: &[T], n: usize) -> &[T] {
 
 // Whether a list is as long as before, with the same entries from a place on.
 pub(crate) fn kept<T: PartialEq>(now: &[T], before: &[T], from: usize) -> bool {
-    now.iter().skip(from).eq(before.iter().skip(from))
+    now.get(from..).unwrap_or(&[]) == before.get(from..).unwrap_or(&[])
 }
