@@ -1,4 +1,6 @@
 // The measurements of a frame: bit patterns in hexadecimal, a line each, and lines as the label desk has them.
+ghost use Rattle.std.specs.Prelude.{◌<◌};
+
 use crate::numbers::Lines;
 use crate::telling;
 use labelling::label_line;
@@ -15,7 +17,9 @@ const SIGN: u64 = 9223372036854775808;
 
 // The value of a hexadecimal digit, small letters.
 // kept: char's to_digit has none for other bytes, and a frame's answer to these stays.
-fn digit(byte: u8) -> u64 {
+fn digit(byte: u8) -> u64
+    ensures { result < 16 }
+{
     let low = u64::from(byte % 16);
     if byte < b'a' { low } else { (low + 9) % 16 }
 }
