@@ -17,7 +17,7 @@ use Rattle.lists.proofs.Sums.{sum, sum_raised}
 use Rattle.kripke.specs.Transitions.{Edge, Graph, succs}
 use Rattle.kripke.specs.Until.{until}
 use Rattle.kripke.proofs.Successors.{edge_state, edge_succ, succ_edge}
-use Rattle.pictures.specs.Inside.{Begun, Goes, Holds, Led, Marked, Noted, Rounded, StateNoted, Stuck, WayOn, mark, noted}
+use Rattle.pictures.specs.Inside.{Begun, Goes, Holds, Led, Marked, WaysNoted, Rounded, StateNoted, Stuck, WayOn, mark, way_of}
 use Rattle.pictures.proofs.Closing.{false_goes, false_low}
 use Rattle.lists.proofs.Entries.{same_at, set_or_not}
 
@@ -69,14 +69,8 @@ module _ (S : ℕ) (es left : List ℕ) (marks : List Bool) (s : ℕ) where
   stuck_way (Some t) true w e m k = absurd (true≢false e)
   stuck_way (Some t) false w e m k = loose (λ x. let f = w.found t refl in inr (t, f.0, f.1))
 
-  -- nothing is noted of a state without a mark or with a left value of 0, and of any other its way
+  -- the way that is found is noted
   module _ (ways : List (Option ℕ)) where
-    pub noted_unmarked : mark marks s ≡ false → StateNoted S es left marks s ways ways
-    noted_unmarked e = record { here = λ m. absurd (true≢false (sym m.1 ∙ e)); others = λ x d. refl }
-
-    pub noted_low : at left s ≡ 0 → StateNoted S es left marks s ways ways
-    noted_low z = record { here = λ m k. absurd (k z); others = λ x d. refl }
-
     pub noted_way : (way : Option ℕ) → s < length ways → WayOn S es marks s way → StateNoted S es left marks s ways (set ways s way)
     noted_way way h w =
         record {
@@ -85,12 +79,12 @@ module _ (S : ℕ) (es left : List ℕ) (marks : List Bool) (s : ℕ) where
         }
 
   -- while the state that is noted has its mark it is the way on
-  pub way_stays : (G : Graph S es) (ways : List (Option ℕ)) (t : ℕ) → Led es ways → noted ways s ≡ Some t → mark marks t ≡ true → WayOn S es marks s (noted ways s)
+  pub way_stays : (G : Graph S es) (ways : List (Option ℕ)) (t : ℕ) → Led es ways → way_of ways s ≡ Some t → mark marks t ≡ true → WayOn S es marks s (way_of ways s)
   way_stays G ways t led e m =
       let x = led.along s t e in
       subst (WayOn S es marks s) (sym e) (record { found = λ u q. let same : t ≡ u = cc in subst (λ (y : ℕ). Edge es s y × Marked S marks y) same (x, (edge_state S es G s t x, m)); none = λ q. absurd (not_some t (sym q)) })
 
-  pub noted_still : (ways : List (Option ℕ)) → WayOn S es marks s (noted ways s) → StateNoted S es left marks s ways ways
+  pub noted_still : (ways : List (Option ℕ)) → WayOn S es marks s (way_of ways s) → StateNoted S es left marks s ways ways
   noted_still ways w = record { here = λ m k. w; others = λ x d. refl }
 
   pub loose_way : (t : ℕ) → Edge es s t → t < S → mark marks t ≡ true → Stuck S es left marks s false
@@ -116,7 +110,7 @@ pub record Rounding (S : ℕ) (es left : List ℕ) (before marks : List Bool) (w
   pub no_more : (s : ℕ) → mark marks s ≡ true → mark before s ≡ true
   pub fewer : some ≡ true → (s : ℕ) × (s < S) × (mark before s ≡ true) × (mark marks s ≡ false)
   pub seen : some ≡ false → (s : ℕ) → s < n → Marked S marks s → Goes es (at left) (Marked S marks) s
-  pub notes : some ≡ false → Noted S es left marks ways n
+  pub notes : some ≡ false → WaysNoted S es left marks ways n
   pub leads : Led es ways
 
 module _ (S : ℕ) (es : List ℕ) (G : Graph S es) (left : List ℕ) (before : List Bool) where
@@ -132,7 +126,7 @@ module _ (S : ℕ) (es : List ℕ) (G : Graph S es) (left : List ℕ) (before : 
           no_more = k.no_more;
           fewer = k.fewer;
           seen = λ e. below_more (λ (s : ℕ). Marked S marks s → Goes es (at left) (Marked S marks) s) n (k.seen e) (d.goes refl);
-          notes = λ e. record { is = below_more (λ (s : ℕ). Marked S marks s → (at left s ≡ 0 → ⊥) → WayOn S es marks s (noted later s)) n (λ s l m x. subst (WayOn S es marks s) (sym (v.others s (λ q. omega (arith, l, q)))) ((k.notes e).is s l m x)) v.here };
+          notes = λ e. record { is = below_more (λ (s : ℕ). Marked S marks s → (at left s ≡ 0 → ⊥) → WayOn S es marks s (way_of later s)) n (λ s l m x. subst (WayOn S es marks s) (sym (v.others s (λ q. omega (arith, l, q)))) ((k.notes e).is s l m x)) v.here };
           leads = led;
         }
 
@@ -165,9 +159,6 @@ module _ (S : ℕ) (es : List ℕ) (G : Graph S es) (left : List ℕ) (before : 
             notes = λ e. absurd (true≢false e);
             leads = led;
           }
-
-  pub rounding_notes : {marks : List Bool} {ways : List (Option ℕ)} {some : Bool} {n : ℕ} → Rounding S es left before marks ways some n → S ≤ n → some ≡ false → Noted S es left marks ways S
-  rounding_notes k h e = record { is = λ s l. (k.notes e).is s (omega (arith, l, h)) }
 
   pub rounding_end : {marks : List Bool} {ways : List (Option ℕ)} {some : Bool} {n : ℕ} → Rounding S es left before marks ways some n → S ≤ n → Rounded S es left before marks some
   rounding_end k h = record { keeps = k.keeps; no_more = k.no_more; fewer = k.fewer; goes = λ e s m. k.seen e s (omega (arith, m.0)) m }

@@ -8,7 +8,7 @@ use lib.ListN.{length, set, drop, replicate, length-append, length-drop}
 use Rattle.lists.specs.Entries.{at}
 use Rattle.values.specs.Limits.{most_states}
 use Rattle.kripke.specs.Transitions.{Edge}
-use Rattle.pictures.specs.Inside.{AllMarked, Drawing, Goes, Marked, Noted, Walked, WayOn, mark, noted}
+use Rattle.pictures.specs.Inside.{AllMarked, Drawing, Goes, Marked, WaysNoted, Walked, WayOn, mark, way_of}
 use Rattle.pictures.specs.Pictures.{EndsBy}
 use Rattle.std.specs.Prelude.{Option, Some, None, Ok}
 use mathlib.Core.Bool.{Bool, true, true≢false}
@@ -84,7 +84,7 @@ module _ (S : ℕ) (es : List ℕ) (marks : List Bool) (start : ℕ) (before : L
 pub record Going (S : ℕ) (es left right : List ℕ) (ways : List (Option ℕ)) (start : ℕ) (before space : List ℕ) (places : List (Option ℕ)) (s n : ℕ) : Type 0 where
   pub marks : List Bool
   pub marked : AllMarked S es left right marks
-  pub follows : Noted S es left marks ways S
+  pub follows : WaysNoted S es left marks ways S
   pub begun : mark marks start ≡ true
   pub walk : OnWalk S es marks start before space places s n
 
@@ -99,13 +99,13 @@ module _ (S : ℕ) (es left right : List ℕ) (ways : List (Option ℕ)) (start 
   going_falls z = drawing Falls (on_falls S es g.marks start before room space places s n g.walk left z)
 
   module _ (holds : at left s ≡ 0 → ⊥) where
-    way : WayOn S es g.marks s (noted ways s)
+    way : WayOn S es g.marks s (way_of ways s)
     way = let m = on_marked S es g.marks start before room space places s n g.walk in g.follows.is s m.0 m holds
 
-    pub going_way : noted ways s ≡ None → ⊥
-    going_way = on_way S es g.marks start before room space places s n g.walk left (noted ways s) g.marked.goes holds way
+    pub going_way : way_of ways s ≡ None → ⊥
+    going_way = on_way S es g.marks start before room space places s n g.walk left (way_of ways s) g.marked.goes holds way
 
-    module _ (t : ℕ) (led : noted ways s ≡ Some t) where
+    module _ (t : ℕ) (led : way_of ways s ≡ Some t) where
       next : Edge es s t × Marked S g.marks t
       next = way.found t led
 

@@ -49,21 +49,21 @@ pub record Stuck (S : ℕ) (es left : List ℕ) (marks : List Bool) (s : ℕ) (s
   pub goes : stuck ≡ false → Marked S marks s → Goes es (at left) (Marked S marks) s
 
 -- the way on that is noted for s
-abbrev pub noted : List (Option ℕ) → ℕ → Option ℕ
-noted ways s = get_or ways s None
+abbrev pub way_of : List (Option ℕ) → ℕ → Option ℕ
+way_of ways s = get_or ways s None
 
 -- each way on that is noted is along a transition
 pub record Led (es : List ℕ) (ways : List (Option ℕ)) : Type 0 where
-  pub along : (s t : ℕ) → noted ways s ≡ Some t → Edge es s t
+  pub along : (s t : ℕ) → way_of ways s ≡ Some t → Edge es s t
 
 -- `is_stuck`: where there is a mark and the left value is not 0, the way on is noted; what is noted of other states stays
 pub record StateNoted (S : ℕ) (es left : List ℕ) (marks : List Bool) (s : ℕ) (before after : List (Option ℕ)) : Type 0 where
-  pub here : Marked S marks s → (at left s ≡ 0 → ⊥) → WayOn S es marks s (noted after s)
-  pub others : (x : ℕ) → (x ≡ s → ⊥) → noted after x ≡ noted before x
+  pub here : Marked S marks s → (at left s ≡ 0 → ⊥) → WayOn S es marks s (way_of after s)
+  pub others : (x : ℕ) → (x ≡ s → ⊥) → way_of after x ≡ way_of before x
 
 -- the way on is noted for each state below n that has a mark and a left value that is not 0
-pub record Noted (S : ℕ) (es left : List ℕ) (marks : List Bool) (ways : List (Option ℕ)) (n : ℕ) : Type 0 where
-  pub is : (s : ℕ) → s < n → Marked S marks s → (at left s ≡ 0 → ⊥) → WayOn S es marks s (noted ways s)
+pub record WaysNoted (S : ℕ) (es left : List ℕ) (marks : List Bool) (ways : List (Option ℕ)) (n : ℕ) : Type 0 where
+  pub is : (s : ℕ) → s < n → Marked S marks s → (at left s ≡ 0 → ⊥) → WayOn S es marks s (way_of ways s)
 
 -- `round`: the marks still hold, for whichever right row; none is new, and one is taken off, or all go on
 pub record Rounded (S : ℕ) (es left : List ℕ) (before after : List Bool) (some : Bool) : Type 0 where

@@ -7,7 +7,7 @@ use crate::question::Question;
 use values::limits::MOST_STATES;
 
 impl<'a> Question<'a> {
-    ghost use Rattle.pictures.specs.Inside.{Begun, WayOn, Stuck, Led, StateNoted, Noted, Rounded, AllMarked};
+    ghost use Rattle.pictures.specs.Inside.{Begun, WayOn, Stuck, Led, StateNoted, WaysNoted, Rounded, AllMarked};
 
     // Before the rounds.
     fn begin(&self, marks: &mut [bool; MOST_STATES])
@@ -66,7 +66,7 @@ impl<'a> Question<'a> {
     fn round(&self, marks: &mut [bool; MOST_STATES], ways: &mut [Option<u16>; MOST_STATES]) -> bool
         requires { Led self.now.graph.transitions.now ways.old }
         ensures rounded { Rounded self.now.graph.states self.now.graph.transitions.now self.now.left.now marks.old marks.new result }
-        ensures noted { result ≡ false → Noted self.now.graph.states self.now.graph.transitions.now self.now.left.now marks.new ways.new self.now.graph.states }
+        ensures noted { result ≡ false → WaysNoted self.now.graph.states self.now.graph.transitions.now self.now.left.now marks.new ways.new self.now.graph.states }
         ensures led { Led self.now.graph.transitions.now ways.new }
     {
         let mut some = false;
@@ -87,7 +87,7 @@ impl<'a> Question<'a> {
     )
         requires { Led self.now.graph.transitions.now ways.old }
         ensures marked { AllMarked self.now.graph.states self.now.graph.transitions.now self.now.left.now self.now.right.now marks.new }
-        ensures noted { Noted self.now.graph.states self.now.graph.transitions.now self.now.left.now marks.new ways.new self.now.graph.states }
+        ensures noted { WaysNoted self.now.graph.states self.now.graph.transitions.now self.now.left.now marks.new ways.new self.now.graph.states }
     {
         self.begin(marks);
         while self.round(marks, ways) {}
