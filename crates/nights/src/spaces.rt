@@ -11,7 +11,7 @@ pub(crate) fn front<T>(list: &[T], n: usize) -> &[T] {
     list.get(..n).unwrap_or(list)
 }
 
-// Whether a list is as long as before, with the same entries from a place on.
+// Whether two lists are the same from a place on.
 pub(crate) fn kept<T: PartialEq>(now: &[T], before: &[T], from: usize) -> bool {
     now.get(from..).unwrap_or(&[]) == before.get(from..).unwrap_or(&[])
 }
